@@ -1,0 +1,118 @@
+-- The public contracts of this crate allow a single answer: document 01's number and values tell every case apart, since from
+-- them the case can be made again. Assumes nothing.
+use mathlib.Core.Path.{_≡_, refl, sym, ap, _∙_}
+use mathlib.Core.Bool.{cond}
+use Prim.Native.Nat.{ℕ}
+use lib.Dec.{eqb}
+use lib.IntN.{ℤ, pos, natAbs}
+use Rattle.number.specs.Single.{Single}
+use Rattle.number.specs.Refusal.{Answer, refused, given}
+use Rattle.number.specs.declared.Number.{Number}
+use Rattle.number.specs.declared.Kept.{Kept}
+use Rattle.quantity.specs.declared.Minute.{Minute}
+use Rattle.message.specs.Decode.{Sent, numberOf, decodedAs}
+use Rattle.message.specs.Receive.{Figure, hPa, mmHg, °C, m/s, kn, deg, none, Entry, entryOf, receivedAs}
+use Rattle.message.specs.declared.MessageRefusal.{MessageRefusal}
+use Rattle.message.specs.declared.MessageRefusal.the-variants.{NotSixteenBytes, NoSuchChannel, ByteNotZero, WetBulbNotWater, MinuteTooLate, NotFinite, OutsideLimits}
+use Rattle.message.specs.declared.Decoded.{Decoded}
+use Rattle.message.specs.declared.Decoded.the-variants as decoding
+use Rattle.message.specs.declared.Reading.{Reading}
+use Rattle.message.specs.declared.Reading.the-variants.{Hectopascals, Millimetres, Wheelhouse, ApparentWind, ShipMotion, DryBulb, WetBulb}
+use Rattle.message.specs.declared.Received.{Received}
+use Rattle.message.specs.declared.Received.the-variants as receiving
+use Rattle.message.proofs.decode.Reads as decode
+use Rattle.message.proofs.receive.Reads as receive
+
+-- ---- the refusal of a number
+
+abbrev refusal : ℕ → MessageRefusal
+refusal n =
+    cond (eqb n 1) NotSixteenBytes
+    (cond (eqb n 2) NoSuchChannel
+    (cond (eqb n 3) ByteNotZero
+    (cond (eqb n 4) WetBulbNotWater
+    (cond (eqb n 5) MinuteTooLate
+    (cond (eqb n 6) NotFinite
+    OutsideLimits)))))
+
+refusal-back : (r : MessageRefusal) → refusal (numberOf r) ≡ r
+refusal-back NotSixteenBytes = refl
+refusal-back NoSuchChannel = refl
+refusal-back ByteNotZero = refl
+refusal-back WetBulbNotWater = refl
+refusal-back MinuteTooLate = refl
+refusal-back NotFinite = refl
+refusal-back OutsideLimits = refl
+
+-- ---- decode
+
+abbrev decoding-of : Answer ℕ Sent → Decoded
+decoding-of (refused n) = decoding.Refused (refusal n)
+decoding-of (given s) = decoding.At (record { 0 = s .minute }) (s .message)
+
+decoding-back : (d : Decoded) → decoding-of (decodedAs d) ≡ d
+decoding-back (decoding.Refused r) = ap decoding.Refused (refusal-back r)
+decoding-back (decoding.At t m) = refl
+
+pub single-decode : Single decode.Post
+single-decode κs a r r′ s s′ p q = sym (decoding-back r) ∙ ap decoding-of (p ∙ sym q) ∙ decoding-back r′
+
+-- ---- receive
+
+size : Figure → ℕ
+size (hPa z) = natAbs z
+size (mmHg z) = natAbs z
+size (°C z) = natAbs z
+size (m/s z) = natAbs z
+size (kn z) = natAbs z
+size (deg z) = natAbs z
+size none = 0
+
+abbrev kept : ℤ → Kept
+kept z = record { v = z }
+
+reading : ℕ → Figure → Figure → Reading
+unfolding size
+reading channel (hPa z) y = Hectopascals (record { 0 = record { v = z } })
+reading channel (mmHg z) y = Millimetres (record { 0 = kept z })
+reading channel (°C z) y =
+    cond (eqb channel 1) (Wheelhouse (record { 0 = kept z }))
+    (cond (eqb channel 4) (DryBulb (record { 0 = kept z })) (WetBulb (record { 0 = kept z })))
+reading channel (m/s z) y = ApparentWind (record { 0 = natAbs z }) (record { 0 = size y })
+reading channel (kn z) y = ShipMotion (record { 0 = natAbs z }) (record { 0 = size y })
+reading channel (deg z) y = WetBulb (record { 0 = kept z })
+reading channel none y = WetBulb (record { 0 = kept (pos 0) })
+
+entry-back : (t : ℕ) (r : Reading) → let e = entryOf t r in reading (e .channel) (e .first) (e .second) ≡ r
+unfolding reading size
+entry-back t (Hectopascals p) = refl
+entry-back t (Millimetres p) = refl
+entry-back t (Wheelhouse x) = refl
+entry-back t (ApparentWind v d) = refl
+entry-back t (ShipMotion v d) = refl
+entry-back t (DryBulb x) = refl
+entry-back t (WetBulb x) = refl
+
+entry-minute : (t : ℕ) (r : Reading) → entryOf t r .minute ≡ t
+entry-minute t (Hectopascals p) = refl
+entry-minute t (Millimetres p) = refl
+entry-minute t (Wheelhouse x) = refl
+entry-minute t (ApparentWind v d) = refl
+entry-minute t (ShipMotion v d) = refl
+entry-minute t (DryBulb x) = refl
+entry-minute t (WetBulb x) = refl
+
+receiving-of : Answer ℕ Entry → Received
+receiving-of (refused n) = receiving.Refused (refusal n)
+receiving-of (given e) = receiving.At (record { 0 = e .minute }) (reading (e .channel) (e .first) (e .second))
+
+at : ℕ → Reading → Received
+at t r = receiving.At (record { 0 = t }) r
+
+receiving-back : (r : Received) → receiving-of (receivedAs r) ≡ r
+unfolding receiving-of at
+receiving-back (receiving.Refused r) = ap receiving.Refused (refusal-back r)
+receiving-back (receiving.At t r) = rw (entry-minute (t .0) r, entry-back (t .0) r)
+
+pub single-receive : Single receive.Post
+single-receive κs a r r′ s s′ p q = sym (receiving-back r) ∙ ap receiving-of (p ∙ sym q) ∙ receiving-back r′

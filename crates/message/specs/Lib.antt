@@ -1,0 +1,6 @@
+pub mod Bytes
+pub mod Value
+pub mod Kinds
+pub mod Decode
+pub mod Receive
+pub mod Work

@@ -1,0 +1,5 @@
+pub mod Sizes
+pub mod Machine
+pub mod RoundLaws
+pub mod RefusalLaws
+pub mod SingleAnswers

@@ -1,0 +1,4 @@
+pub mod Round
+pub mod Whole
+pub mod Refusal
+pub mod Single

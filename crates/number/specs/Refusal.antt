@@ -1,0 +1,36 @@
+-- Refusals in order: a request is put to a list of tests, and the first that holds refuses.
+use mathlib.Core.Path.{_≡_}
+use mathlib.Core.Bool.{Bool, true, _&&_, cond}
+use mathlib.Core.List.{List, [], _∷_}
+use Prim.Native.Nat.{ℕ, zero, suc}
+use lib.Dec.{T, ltb}
+
+-- A test: what it refuses with, and whether its reason holds.
+pub record Test (R : Type 0) : Type 0 where
+  pub refusal : R
+  pub holds : Bool
+
+-- An answer: a refusal, or what was asked for.
+pub data Answer (R A : Type 0) : Type 0 where
+  refused : R → Answer R A
+  given : A → Answer R A
+
+-- "exactly when its reason holds and no earlier test has refused"
+unfoldable pub answer : {R A : Type 0} → List (Test R) → A → Answer R A
+answer [] a = given a
+answer (t ∷ ts) a = cond (t .holds) (refused (t .refusal)) (answer ts a)
+
+-- The words of the laws (proofs/RefusalLaws). The test at a place, counted from 0, holds and refuses with r.
+abbrev pub HoldsAt : {R : Type 0} → List (Test R) → ℕ → R → Type 0
+HoldsAt [] place r = ⊥
+HoldsAt (t ∷ ts) zero r = T (t .holds) × (t .refusal ≡ r)
+HoldsAt (t ∷ ts) (suc place) r = HoldsAt ts place r
+
+-- Some test that refuses with r holds.
+abbrev pub Holds : {R : Type 0} → List (Test R) → R → Type 0
+Holds ts r = (place : ℕ) × HoldsAt ts place r
+
+-- The tests stand in number order, each number above n.
+abbrev pub inOrder : ℕ → List (Test ℕ) → Bool
+inOrder n [] = true
+inOrder n (t ∷ ts) = ltb n (t .refusal) && inOrder (t .refusal) ts

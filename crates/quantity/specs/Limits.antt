@@ -1,0 +1,45 @@
+-- The limits of each quantity (document 01, "Messages": the table, "Limits after rounding").
+use mathlib.Core.Bool.{Bool}
+use Prim.Native.Nat.{ℕ}
+use lib.IntN.{ℤ, pos, negℤ}
+use Rattle.number.specs.Whole.{within}
+
+pub record Limits : Type 0 where
+  pub low : ℤ
+  pub high : ℤ
+
+-- Whether a number lies within limits, both included.
+abbrev pub inside : Limits → ℤ → Bool
+inside l z = within (l .low) (l .high) z
+
+-- 850.0 to 1100.0 hPa
+abbrev pub hectopascals : Limits
+hectopascals = record { low = pos 8500; high = pos 11000 }
+
+-- 640.0 to 825.0 mm Hg
+abbrev pub millimetres : Limits
+millimetres = record { low = pos 6400; high = pos 8250 }
+
+-- wheelhouse thermometer: -40.0 to 60.0 °C
+abbrev pub wheelhouse : Limits
+wheelhouse = record { low = negℤ (pos 400); high = pos 600 }
+
+-- dry bulb, wet bulb: -40.0 to 50.0 °C
+abbrev pub bulb : Limits
+bulb = record { low = negℤ (pos 400); high = pos 500 }
+
+-- apparent wind: 0 to 75.0 m/s
+abbrev pub metresPerSecond : Limits
+metresPerSecond = record { low = pos 0; high = pos 750 }
+
+-- ship motion: 0 to 40.0 knots
+abbrev pub knots : Limits
+knots = record { low = pos 0; high = pos 400 }
+
+-- whole degrees: 0 to 360
+abbrev pub degrees : Limits
+degrees = record { low = pos 0; high = pos 360 }
+
+-- "minute above 16,777,215" is refusal 5
+abbrev pub lastMinute : ℕ
+lastMinute = 16777215

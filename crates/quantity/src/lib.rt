@@ -1,0 +1,173 @@
+// The quantities of a ship's weather, each with its limits. All are whole numbers of the last place that document 01 shows.
+// A quantity of another unit is another type, and the one conversion of each pair that a formula joins stands here.
+ghost use mathlib.Core.Path.{_≡_};
+ghost use Prim.Native.Nat.{ℕ, _*_, _%_};
+ghost use lib.Dec.{leb};
+ghost use Rattle.quantity.specs.Limits.{inside, hectopascals, millimetres, wheelhouse, bulb, metresPerSecond, knots, degrees, lastMinute};
+ghost use Rattle.quantity.specs.Convert.{inHectopascals, keptDirection, partsOfKnots, partsOfMetres};
+use number::Kept;
+use number::Number;
+
+// The unit of a barometer.
+pub enum BarometerUnit {
+    Hectopascals,
+    Millimetres,
+}
+
+// A pressure in tenths of hPa. One size up from mm Hg, so that every number of mm Hg has its hPa.
+pub struct Hectopascals(pub Number);
+
+// A pressure in tenths of mm Hg.
+pub struct Millimetres(pub Kept);
+
+// The temperature in the wheelhouse, in tenths of °C.
+pub struct WheelhouseTemperature(pub Kept);
+
+// The temperature of the dry or the wet bulb, in tenths of °C.
+pub struct BulbTemperature(pub Kept);
+
+// A speed in tenths of m/s.
+pub struct MetresPerSecond(pub u32);
+
+// A speed in tenths of a knot.
+pub struct Knots(pub u32);
+
+// A speed in parts of 1/12500 m/s: in these a tenth of a m/s and 0.5144 times a tenth of a knot are both whole.
+pub struct SpeedParts(pub u64);
+
+// A direction in whole degrees, clockwise.
+pub struct Degrees(pub u32);
+
+// A minute of the station's count.
+pub struct Minute(pub u32);
+
+impl Hectopascals {
+    pub const LOW: Number = Number { v: 8500 };
+
+    pub const HIGH: Number = Number { v: 11000 };
+
+    // Whether n is a barometer's reading in tenths of hPa.
+    pub fn holds(n: Number) -> bool
+        ensures { λ r. ⌜ r ≡ inside hectopascals (n .v) ⌝ }
+    {
+        n.within(Self::LOW, Self::HIGH)
+    }
+}
+
+impl Millimetres {
+    pub const LOW: Number = Number { v: 6400 };
+
+    pub const HIGH: Number = Number { v: 8250 };
+
+    // Whether n is a barometer's reading in tenths of mm Hg.
+    pub fn holds(n: Number) -> bool
+        ensures { λ r. ⌜ r ≡ inside millimetres (n .v) ⌝ }
+    {
+        n.within(Self::LOW, Self::HIGH)
+    }
+
+    // The same pressure in hPa: times 1.3332, rounded to 0.1.
+    pub fn hectopascals(self) -> Hectopascals
+        ensures { λ r. ⌜ r .0 .v ≡ inHectopascals (self .0 .v) ⌝ }
+    {
+        let n = self.0;
+        Hectopascals(n.number().times(13332).over(10000))
+    }
+}
+
+impl WheelhouseTemperature {
+    pub const LOW: Number = Number { v: -400 };
+
+    pub const HIGH: Number = Number { v: 600 };
+
+    // Whether n is a temperature in the wheelhouse.
+    pub fn holds(n: Number) -> bool
+        ensures { λ r. ⌜ r ≡ inside wheelhouse (n .v) ⌝ }
+    {
+        n.within(Self::LOW, Self::HIGH)
+    }
+}
+
+impl BulbTemperature {
+    pub const LOW: Number = Number { v: -400 };
+
+    pub const HIGH: Number = Number { v: 500 };
+
+    // Whether n is a temperature of the dry or the wet bulb.
+    pub fn holds(n: Number) -> bool
+        ensures { λ r. ⌜ r ≡ inside bulb (n .v) ⌝ }
+    {
+        n.within(Self::LOW, Self::HIGH)
+    }
+}
+
+impl MetresPerSecond {
+    pub const LOW: Number = Number { v: 0 };
+
+    pub const HIGH: Number = Number { v: 750 };
+
+    // Whether n is a speed of the apparent wind.
+    pub fn holds(n: Number) -> bool
+        ensures { λ r. ⌜ r ≡ inside metresPerSecond (n .v) ⌝ }
+    {
+        n.within(Self::LOW, Self::HIGH)
+    }
+
+    // The same speed in parts of 1/12500 m/s, exactly.
+    pub fn parts(self) -> SpeedParts
+        ensures { λ r. ⌜ r .0 ≡ partsOfMetres (self .0) ⌝ }
+    {
+        SpeedParts(1250 * (self.0 as u64))
+    }
+}
+
+impl Knots {
+    pub const LOW: Number = Number { v: 0 };
+
+    pub const HIGH: Number = Number { v: 400 };
+
+    // Whether n is a speed of the ship.
+    pub fn holds(n: Number) -> bool
+        ensures { λ r. ⌜ r ≡ inside knots (n .v) ⌝ }
+    {
+        n.within(Self::LOW, Self::HIGH)
+    }
+
+    // The same speed in parts of 1/12500 m/s: times 0.5144, exactly.
+    pub fn parts(self) -> SpeedParts
+        ensures { λ r. ⌜ r .0 ≡ partsOfKnots (self .0) ⌝ }
+    {
+        SpeedParts(643 * (self.0 as u64))
+    }
+}
+
+impl Degrees {
+    pub const LOW: Number = Number { v: 0 };
+
+    pub const HIGH: Number = Number { v: 360 };
+
+    // Whether n is a direction or a course.
+    pub fn holds(n: Number) -> bool
+        ensures { λ r. ⌜ r ≡ inside degrees (n .v) ⌝ }
+    {
+        n.within(Self::LOW, Self::HIGH)
+    }
+
+    // The direction n as it is kept: 360 as 0.
+    pub fn keep(n: u32) -> Degrees
+        ensures { λ r. ⌜ r .0 ≡ keptDirection n ⌝ }
+    {
+        Degrees(n % 360)
+    }
+}
+
+impl Minute {
+    pub const LAST: u32 = 16777215;
+
+    // Whether n is a minute.
+    pub fn holds(n: u32) -> bool
+        ensures { λ r. ⌜ r ≡ leb n lastMinute ⌝ }
+    {
+        n <= Self::LAST
+    }
+}
