@@ -96,10 +96,11 @@ fn word(bytes: &[u8], at: usize) -> u32
     requires { ⌜ at + 4 ≤ length (now bytes) ⌝ }
     ensures { λ r. ⌜ r ≡ word (now (bytes .entry)) at ⌝ }
 {
-    wide(bytes[at])
-        + 256 * wide(bytes[at + 1])
-        + 65536 * wide(bytes[at + 2])
-        + 16777216 * wide(bytes[at + 3])
+    let a = wide(bytes[at]);
+    let b = wide(bytes[at + 1]);
+    let c = wide(bytes[at + 2]);
+    let d = wide(bytes[at + 3]);
+    a + 256 * b + 65536 * c + 16777216 * d
 }
 
 // Whether the state is not zero though it must be.
@@ -107,7 +108,8 @@ fn has_stray_state(bytes: &[u8]) -> bool
     requires { ⌜ length (now bytes) ≡ 16 ⌝ }
     ensures { λ r. ⌜ r ≡ not (wetBulb (now (bytes .entry)) || eqb (state (now (bytes .entry))) 0) ⌝ }
 {
-    if bytes[0] == 5 {
+    let sender = bytes[0];
+    if sender == 5 {
         return false;
     }
     bytes[1] != 0
@@ -118,11 +120,11 @@ fn has_stray_second(bytes: &[u8]) -> bool
     requires { ⌜ length (now bytes) ≡ 16 ⌝ }
     ensures { λ r. ⌜ r ≡ not (paired (now (bytes .entry)) || eqb (word (now (bytes .entry)) 12) 0) ⌝ }
 {
-    let channel = bytes[0];
-    if channel == 2 {
+    let sender = bytes[0];
+    if sender == 2 {
         return false;
     }
-    if channel == 3 {
+    if sender == 3 {
         return false;
     }
     word(bytes, 12) != 0

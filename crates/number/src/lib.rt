@@ -22,7 +22,8 @@ impl Kept {
     pub fn number(self) -> Number
         ensures { λ r. ⌜ Is (r .v) (self .v) (2 ^ 31) ⌝ }
     {
-        Number { v: self.v as i64 }
+        let wide = self.v as i64;
+        Number { v: wide }
     }
 }
 
@@ -31,7 +32,8 @@ impl Number {
     pub fn whole(x: u32) -> Number
         ensures { λ r. ⌜ Is (r .v) (pos x) 4294967295 ⌝ }
     {
-        Number { v: x as i64 }
+        let whole = x as i64;
+        Number { v: whole }
     }
 
     // The number of this size, with a minus or without.
@@ -51,30 +53,35 @@ impl Number {
         requires { ⌜ natAbs (self .v) < 2 ^ 31 ⌝ }
         ensures { λ r. ⌜ r .v ≡ self .v ⌝ }
     {
-        Kept { v: self.v as i32 }
+        let narrow = self.v as i32;
+        Kept { v: narrow }
     }
 
     pub fn plus(self, b: Number) -> Number
         requires { ⌜ natAbs (self .v) + natAbs (b .v) < 2 ^ 63 ⌝ }
         ensures { λ r. ⌜ Is (r .v) (self .v +ℤ b .v) (natAbs (self .v) + natAbs (b .v)) ⌝ }
     {
-        Number { v: self.v + b.v }
+        let x = self.v;
+        let y = b.v;
+        Number { v: x + y }
     }
 
     pub fn minus(self, b: Number) -> Number
         requires { ⌜ natAbs (self .v) + natAbs (b .v) < 2 ^ 63 ⌝ }
         ensures { λ r. ⌜ Is (r .v) (self .v -ℤ b .v) (natAbs (self .v) + natAbs (b .v)) ⌝ }
     {
-        Number { v: self.v - b.v }
+        let x = self.v;
+        let y = b.v;
+        Number { v: x - y }
     }
 
     pub fn times(self, k: u32) -> Number
         requires { ⌜ natAbs (self .v) * k < 2 ^ 63 ⌝ }
         ensures { λ r. ⌜ Is (r .v) (self .v *ℤ pos k) (natAbs (self .v) * k) ⌝ }
     {
-        Number {
-            v: self.v * (k as i64),
-        }
+        let x = self.v;
+        let y = k as i64;
+        Number { v: x * y }
     }
 
     pub fn is_minus(self) -> bool

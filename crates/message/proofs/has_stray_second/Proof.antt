@@ -4,8 +4,8 @@ use borrow.Author.Needs.{needs}
 use Rattle.message.proofs.has_stray_second.Statement.{statement}
 use Rattle.message.proofs.has_stray_second.Tie as tie
 
-shared-slice-read-channel : tie.Need-shared-slice-read-channel
-shared-slice-read-channel c = search needs
+shared-slice-read-sender : tie.Need-shared-slice-read-sender
+shared-slice-read-sender c = search needs
 
 returns : tie.Need-returns
 returns c = rw (eq-eqb _ _ (c .if1 .taken))
@@ -21,4 +21,4 @@ returns-3 c = rw (ne-eqb _ _ (c .before .before .if1 .left), ne-eqb _ _ (c .befo
 
 pub has-stray-second-spec : {M : Type 1} → statement M
 has-stray-second-spec =
-    tie.close (tie.spec shared-slice-read-channel returns returns-2 word-requires returns-3)
+    tie.close (tie.spec shared-slice-read-sender returns returns-2 word-requires returns-3)

@@ -6,17 +6,17 @@ use Rattle.number.proofs.Machine.{fits64, asked, left}
 use Rattle.number.proofs.Number.minus.Statement.{statement}
 use Rattle.number.proofs.Number.minus.Tie as tie
 
-sub-t3 : tie.Need-sub-t3
-sub-t3 c =
-    let a = c .before .before .before .before .args .self .v in
-    let b = c .before .before .before .before .args .b .v in
+sub-t5 : tie.Need-sub-t5
+sub-t5 c =
+    let a = c .before .before .args .self .v in
+    let b = c .before .before .args .b .v in
     asked _-ℤ_ (fits64 a (omega arith)) (fits64 b (omega arith)) (omega (arith, size-sub a b))
 
 returns : tie.Need-returns
 returns c =
-    let a = c .before .before .before .before .args .self .v in
-    let b = c .before .before .before .before .args .b .v in
+    let a = c .before .before .args .self .v in
+    let b = c .before .before .args .b .v in
     left _-ℤ_ (fits64 a (omega arith)) (fits64 b (omega arith)) (omega (arith, size-sub a b)) (omega arith)
 
 pub minus-spec : {M : Type 1} → statement M
-minus-spec = tie.close (tie.spec sub-t3 returns)
+minus-spec = tie.close (tie.spec sub-t5 returns)

@@ -9,21 +9,21 @@ use Rattle.number.proofs.Machine.{fits64, is}
 use Rattle.number.proofs.Number.times.Statement.{statement}
 use Rattle.number.proofs.Number.times.Tie as tie
 
-cast-t3 : tie.Need-cast-t3
-cast-t3 c = search needs
+cast-y : tie.Need-cast-y
+cast-y c = search needs
 
-mul-t4 : tie.Need-mul-t4
-mul-t4 c =
-    let a = c .before .before .args .self .v in
-    let k = c .before .before .args .k in
+mul-t5 : tie.Need-mul-t5
+mul-t5 c =
+    let a = c .before .args .self .v in
+    let k = c .before .args .k in
     rw (toZ-pos w64 {n = k} (omega arith), toZ-ofZ (sfits-of {z = a} (c .struct-told .given .0 .1))) (fits64 (a *ℤ pos k) (omega (arith, size-mul a (pos k))))
 
 returns : tie.Need-returns
 returns c =
-    let a = c .before .before .args .self .v in
-    let k = c .before .before .args .k in
+    let a = c .before .args .self .v in
+    let k = c .before .args .k in
     let f = fits64 (a *ℤ pos k) (omega (arith, size-mul a (pos k))) in
     rw (toZ-pos w64 {n = k} (omega arith), toZ-ofZ (sfits-of {z = a} (c .struct-told .given .0 .1)), toZ-ofZ f) (is (omega (arith, size-mul a (pos k))))
 
 pub times-spec : {M : Type 1} → statement M
-times-spec = tie.close (tie.spec cast-t3 mul-t4 returns)
+times-spec = tie.close (tie.spec cast-y mul-t5 returns)

@@ -7,11 +7,11 @@ use borrow.Author.Needs.{needs}
 use Rattle.number.proofs.Number.whole.Statement.{statement}
 use Rattle.number.proofs.Number.whole.Tie as tie
 
-cast-t2 : tie.Need-cast-t2
-cast-t2 c = search needs
+cast-whole : tie.Need-cast-whole
+cast-whole c = search needs
 
 returns : tie.Need-returns
 returns c = rw (toZ-pos w64 {n = c .args .x} (omega arith)) (is (omega arith))
 
 pub whole-spec : {M : Type 1} → statement M
-whole-spec = tie.close (tie.spec cast-t2 returns)
+whole-spec = tie.close (tie.spec cast-whole returns)
