@@ -182,19 +182,12 @@ fn tenfold(x: f32) -> f64
     x as f64 * 10.0
 }
 
-fn power(k: u64) -> u64
-    requires { ⌜ k < 64 ⌝ }
-    ensures { λ r. ⌜ r ≡ 2 ^ k ⌝ }
-{
-    1u64 << k
-}
-
 // m / 2^k to the nearest whole number, a half away from zero: the one place that knows the rule for a half.
 fn nearest(m: u64, k: u64) -> u64
     requires { ⌜ (m < 2 ^ 53) × (k < 64) ⌝ }
     ensures { λ r. ⌜ r ≡ toWhole m (2 ^ k) ⌝ }
 {
-    let c = power(k);
+    let c = number::power(k);
     let q = m / c;
     let r = m % c * 2;
     if r < c { q } else { q + 1 }

@@ -17,6 +17,7 @@ use Rattle.number.proofs.Number.size.Reads as size
 use Rattle.number.proofs.Number.over.Reads as over
 use Rattle.number.proofs.Number.at_most.Reads as at-most
 use Rattle.number.proofs.Number.within.Reads as within
+use Rattle.number.proofs.power.Reads as power
 
 pub number-by : {x y : Number} → x .v ≡ y .v → x ≡ y
 number-by e = ap make e
@@ -65,3 +66,6 @@ single-at-most κs a r r′ s s′ p q = p ∙ sym q
 
 pub single-within : Single within.Post
 single-within κs a r r′ s s′ p q = p ∙ sym q
+
+pub single-power : Single power.Post
+single-power κs a r r′ s s′ p q = p ∙ sym q

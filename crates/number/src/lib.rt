@@ -127,3 +127,11 @@ impl Number {
         false
     }
 }
+
+// 2 to the power k.
+pub fn power(k: u64) -> u64
+    requires { ⌜ k < 64 ⌝ }
+    ensures { λ r. ⌜ r ≡ 2 ^ k ⌝ }
+{
+    1u64 << k
+}

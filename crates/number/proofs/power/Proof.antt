@@ -1,11 +1,11 @@
--- `power` meets its contract. Assumes nothing.
+-- `power` meets its contract: the shift of 1 does not leave the word. Assumes nothing.
 use mathlib.Core.Path.{_≡_, sym, ap, _∙_}
 use Prim.Native.Nat.{ℕ, _%_, _^_}
 use native.Mathlib.Nat.{mod-eq-of-lt, one-mul}
 use lib.Pow.{pow-lt}
 use borrow.Author.Needs.{needs}
-use Rattle.message.proofs.power.Statement.{statement}
-use Rattle.message.proofs.power.Tie as tie
+use Rattle.number.proofs.power.Statement.{statement}
+use Rattle.number.proofs.power.Tie as tie
 
 shl-result : tie.Need-shl-result
 shl-result c = search needs
