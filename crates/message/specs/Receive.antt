@@ -4,7 +4,7 @@ use mathlib.Core.List.{List, [], _∷_, _++_}
 use Prim.Native.Nat.{ℕ}
 use lib.IntN.{ℤ, pos, negsuc}
 use Rattle.number.specs.Refusal.{Test, Answer, refused, given, answer}
-use Rattle.quantity.specs.Limits.{Limits, inside, hectopascals, millimetres, wheelhouse, bulb, metresPerSecond, knots}
+use Rattle.quantity.specs.Limits.{inside, pressureLimits, wheelhouse, bulb, metresPerSecond, knots}
 use Rattle.quantity.specs.Limits as limits
 use Rattle.quantity.specs.Convert.{keptDirection}
 use Rattle.quantity.specs.declared.BarometerUnit.{BarometerUnit}
@@ -31,14 +31,10 @@ pub record Entry : Type 0 where
   pub first : Figure
   pub second : Figure
 
--- "tenths of hPa or mm Hg"; "850.0 to 1100.0 hPa; 640.0 to 825.0 mm Hg"
+-- "tenths of hPa or mm Hg"
 abbrev pub pressure : BarometerUnit → ℤ → Figure
 pressure unit.Hectopascals z = hPa z
 pressure unit.Millimetres z = mmHg z
-
-abbrev pub pressureLimits : BarometerUnit → Limits
-pressureLimits unit.Hectopascals = hectopascals
-pressureLimits unit.Millimetres = millimetres
 
 -- "A direction of 360 is kept as 0." (One below 0 is refused.)
 abbrev pub compass : ℤ → ℤ

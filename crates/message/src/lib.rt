@@ -11,8 +11,9 @@ ghost use Rattle.message.specs.Bytes.{state, word, wetBulb, paired, stra
 ghost use Rattle.message.specs.Value.{Finite, toWhole};
 ghost use Rattle.message.specs.Kinds.{kind, Sound};
 ghost use Rattle.message.specs.Decode.{decoded, decodedAs};
-ghost use Rattle.message.specs.Receive.{hPa, mmHg, °C, m/s, kn, pressure, pressureLimits, entry, limitTests, received, receivedAs};
+ghost use Rattle.message.specs.Receive.{hPa, mmHg, °C, m/s, kn, pressure, entry, limitTests, received, receivedAs};
 ghost use Rattle.message.specs.Work.{finiteBits, digits, most, capped, TenTimes, oneFigure, twoFigures};
+ghost use Rattle.quantity.specs.Limits.{pressureLimits};
 ghost use Rattle.quantity.specs.Limits as limits;
 ghost use Rattle.number.specs.Refusal.{answer};
 use number::Number;

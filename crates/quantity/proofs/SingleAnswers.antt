@@ -7,6 +7,7 @@ use Rattle.number.proofs.SingleAnswers.{number-by}
 use Rattle.quantity.specs.declared.Hectopascals.{Hectopascals}
 use Rattle.quantity.specs.declared.SpeedParts.{SpeedParts}
 use Rattle.quantity.specs.declared.Degrees.{Degrees}
+use Rattle.quantity.proofs.BarometerUnit.holds.Reads as barometer-unit
 use Rattle.quantity.proofs.Hectopascals.holds.Reads as hectopascals
 use Rattle.quantity.proofs.Millimetres.holds.Reads as millimetres
 use Rattle.quantity.proofs.WheelhouseTemperature.holds.Reads as wheelhouse-temperature
@@ -19,6 +20,9 @@ use Rattle.quantity.proofs.Millimetres.hectopascals.Reads as in-hectopa
 use Rattle.quantity.proofs.MetresPerSecond.parts.Reads as metres-parts
 use Rattle.quantity.proofs.Knots.parts.Reads as knots-parts
 use Rattle.quantity.proofs.Degrees.keep.Reads as degrees-keep
+
+pub single-barometer-unit : Single barometer-unit.Post
+single-barometer-unit κs a r r′ s s′ p q = p ∙ sym q
 
 pub single-hectopascals : Single hectopascals.Post
 single-hectopascals κs a r r′ s s′ p q = p ∙ sym q

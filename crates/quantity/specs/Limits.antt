@@ -3,6 +3,8 @@ use mathlib.Core.Bool.{Bool}
 use Prim.Native.Nat.{ℕ}
 use lib.IntN.{ℤ, pos, negℤ}
 use Rattle.number.specs.Whole.{within}
+use Rattle.quantity.specs.declared.BarometerUnit.{BarometerUnit}
+use Rattle.quantity.specs.declared.BarometerUnit.the-variants.{Hectopascals, Millimetres}
 
 pub record Limits : Type 0 where
   pub low : ℤ
@@ -19,6 +21,11 @@ hectopascals = record { low = pos 8500; high = pos 11000 }
 -- 640.0 to 825.0 mm Hg
 abbrev pub millimetres : Limits
 millimetres = record { low = pos 6400; high = pos 8250 }
+
+-- a barometer's, by its unit
+abbrev pub pressureLimits : BarometerUnit → Limits
+pressureLimits Hectopascals = hectopascals
+pressureLimits Millimetres = millimetres
 
 -- wheelhouse thermometer: -40.0 to 60.0 °C
 abbrev pub wheelhouse : Limits

@@ -3,7 +3,7 @@
 ghost use mathlib.Core.Path.{_≡_};
 ghost use Prim.Native.Nat.{ℕ, _*_, _%_};
 ghost use lib.Dec.{leb};
-ghost use Rattle.quantity.specs.Limits.{inside, hectopascals, millimetres, wheelhouse, bulb, metresPerSecond, knots, degrees, lastMinute};
+ghost use Rattle.quantity.specs.Limits.{inside, hectopascals, millimetres, pressureLimits, wheelhouse, bulb, metresPerSecond, knots, degrees, lastMinute};
 ghost use Rattle.quantity.specs.Convert.{inHectopascals, keptDirection, partsOfKnots, partsOfMetres};
 use number::Kept;
 use number::Number;
@@ -40,6 +40,18 @@ pub struct Degrees(pub u32);
 
 // A minute of the station's count.
 pub struct Minute(pub u32);
+
+impl BarometerUnit {
+    // Whether n is a barometer's reading in tenths of this unit.
+    pub fn holds(self, n: Number) -> bool
+        ensures { λ r. ⌜ r ≡ inside (pressureLimits self) (n .v) ⌝ }
+    {
+        match self {
+            BarometerUnit::Hectopascals => Hectopascals::holds(n),
+            BarometerUnit::Millimetres => Millimetres::holds(n),
+        }
+    }
+}
 
 impl Hectopascals {
     pub const LOW: Number = Number { v: 8500 };

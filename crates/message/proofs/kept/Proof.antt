@@ -5,13 +5,13 @@ use lib.Dec.{lit<}
 use lib.IntN.{ℤ}
 use lib.Ieee.{Float}
 use Rattle.number.specs.Refusal.{Answer}
-use Rattle.quantity.specs.Limits.{Limits}
+use Rattle.quantity.specs.Limits.{Limits, pressureLimits}
 use Rattle.quantity.specs.Limits as limits
 use Rattle.quantity.specs.declared.BarometerUnit.{BarometerUnit}
 use Rattle.quantity.specs.declared.BarometerUnit.the-variants.{Hectopascals, Millimetres}
 use Rattle.message.specs.Value.{timesRounded}
 use Rattle.message.specs.Kinds.{Sound}
-use Rattle.message.specs.Receive.{Figure, °C, m/s, kn, Entry, pressure, pressureLimits}
+use Rattle.message.specs.Receive.{Figure, °C, m/s, kn, Entry, pressure}
 use Rattle.message.specs.Work.{capped, oneFigure, twoFigures}
 use Rattle.message.proofs.Keep.{Small, one-exact, two-exact}
 use borrow.Author.Needs.{needs}

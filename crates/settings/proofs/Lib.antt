@@ -1,0 +1,4 @@
+pub mod EveryLaws
+pub mod HoldsLaws
+pub mod SingleAnswers
+pub mod RefusalsInOrder

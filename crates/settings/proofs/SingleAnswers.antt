@@ -1,0 +1,44 @@
+-- Each public contract of this crate allows a single answer. Assumes nothing.
+use mathlib.Core.Path.{_≡_, refl, sym, ap, _∙_}
+use mathlib.Core.Bool.{cond}
+use Prim.Native.Nat.{ℕ}
+use lib.Dec.{eqb}
+use Rattle.number.specs.Single.{Single}
+use Rattle.number.specs.Refusal.{Answer, refused, given}
+use Rattle.settings.specs.Settings.{checkedAs}
+use Rattle.settings.specs.declared.Checked.{Checked}
+use Rattle.settings.specs.declared.Checked.the-variants.{Good, OutsideLimits, CertificateBroken}
+use Rattle.settings.proofs.Height.holds.Reads as height
+use Rattle.settings.proofs.SeaLevelDifference.holds.Reads as difference
+use Rattle.settings.proofs.TemperatureCoefficient.holds.Reads as coefficient
+use Rattle.settings.proofs.PsychrometerCoefficient.holds.Reads as psychrometer
+use Rattle.settings.proofs.Correction.holds.Reads as correction
+use Rattle.settings.proofs.check.Reads as check
+
+pub single-height : Single height.Post
+single-height κs a r r′ s s′ p q = p ∙ sym q
+
+pub single-difference : Single difference.Post
+single-difference κs a r r′ s s′ p q = p ∙ sym q
+
+pub single-coefficient : Single coefficient.Post
+single-coefficient κs a r r′ s s′ p q = p ∙ sym q
+
+pub single-psychrometer : Single psychrometer.Post
+single-psychrometer κs a r r′ s s′ p q = p ∙ sym q
+
+pub single-correction : Single correction.Post
+single-correction κs a r r′ s s′ p q = p ∙ sym q
+
+case-of : Answer ℕ (Unit {0}) → Checked
+case-of (refused n) = cond (eqb n 9) OutsideLimits CertificateBroken
+case-of (given a) = Good
+
+case-back : (c : Checked) → case-of (checkedAs c) ≡ c
+unfolding case-of
+case-back Good = refl
+case-back OutsideLimits = refl
+case-back CertificateBroken = refl
+
+pub single-check : Single check.Post
+single-check κs a r r′ s s′ p q = sym (case-back r) ∙ ap case-of (p ∙ sym q) ∙ case-back r′

@@ -1,0 +1,224 @@
+// The settings of a store: their limits, and refusals 9 and 10.
+ghost use mathlib.Core.Path.{_≡_};
+ghost use mathlib.Core.Bool.{Bool, true, false, _&&_};
+ghost use Prim.Native.Nat.{ℕ, _+_, _-_, _≤_, _<_};
+ghost use lib.ListN.{getD};
+ghost use Rattle.quantity.specs.Limits.{inside};
+ghost use Rattle.settings.specs.Settings.{height, difference, coefficient, psychrometer, correction, every, pointAt, pointHolds, rises, certificateHolds, othersHold, checked, checkedAs};
+use number::Kept;
+use number::Number;
+use quantity::BarometerUnit;
+
+// The most points that a certificate can have.
+pub const POINTS: usize = 16;
+
+// The height of the barometer, in tenths of a metre.
+pub struct Height(pub Kept);
+
+// How much the sea lies higher than the ocean, in tenths of a metre: negative when the closed sea lies lower.
+pub struct SeaLevelDifference(pub Kept);
+
+// The barometer's temperature coefficient, in thousandths of its unit per °C.
+pub struct TemperatureCoefficient(pub Kept);
+
+// The psychrometer's coefficient A, in millionths.
+pub struct PsychrometerCoefficient(pub Kept);
+
+// A correction of a certificate, in tenths of the barometer's unit.
+pub struct Correction(pub Kept);
+
+// A point of a certificate: a reading in tenths of the barometer's unit, and its correction.
+pub struct Point {
+    pub reading: Kept,
+    pub correction: Correction,
+}
+
+// The settings of a store, right or wrong. Of the points the first `count` are the certificate.
+pub struct Settings {
+    pub unit: BarometerUnit,
+    pub height: Height,
+    pub difference: SeaLevelDifference,
+    pub coefficient: TemperatureCoefficient,
+    pub psychrometer: PsychrometerCoefficient,
+    pub count: u32,
+    pub points: [Point; POINTS],
+}
+
+// What settings come to.
+pub enum Checked {
+    // They are within their limits.
+    Good,
+    // 9
+    OutsideLimits,
+    // 10
+    CertificateBroken,
+}
+
+impl Height {
+    pub const LOW: Number = Number { v: 0 };
+
+    pub const HIGH: Number = Number { v: 600 };
+
+    // Whether n is a height.
+    pub fn holds(n: Number) -> bool
+        ensures { λ r. ⌜ r ≡ inside height (n .v) ⌝ }
+    {
+        n.within(Self::LOW, Self::HIGH)
+    }
+}
+
+impl SeaLevelDifference {
+    pub const LOW: Number = Number { v: -300 };
+
+    pub const HIGH: Number = Number { v: 300 };
+
+    // Whether n is a sea level difference.
+    pub fn holds(n: Number) -> bool
+        ensures { λ r. ⌜ r ≡ inside difference (n .v) ⌝ }
+    {
+        n.within(Self::LOW, Self::HIGH)
+    }
+}
+
+impl TemperatureCoefficient {
+    pub const LOW: Number = Number { v: -50 };
+
+    pub const HIGH: Number = Number { v: 50 };
+
+    // Whether n is a temperature coefficient.
+    pub fn holds(n: Number) -> bool
+        ensures { λ r. ⌜ r ≡ inside coefficient (n .v) ⌝ }
+    {
+        n.within(Self::LOW, Self::HIGH)
+    }
+}
+
+impl PsychrometerCoefficient {
+    pub const LOW: Number = Number { v: 500 };
+
+    pub const HIGH: Number = Number { v: 1000 };
+
+    // Whether n is a psychrometer's coefficient.
+    pub fn holds(n: Number) -> bool
+        ensures { λ r. ⌜ r ≡ inside psychrometer (n .v) ⌝ }
+    {
+        n.within(Self::LOW, Self::HIGH)
+    }
+}
+
+impl Correction {
+    pub const LOW: Number = Number { v: -50 };
+
+    pub const HIGH: Number = Number { v: 50 };
+
+    // Whether n is a correction of a certificate.
+    pub fn holds(n: Number) -> bool
+        ensures { λ r. ⌜ r ≡ inside correction (n .v) ⌝ }
+    {
+        n.within(Self::LOW, Self::HIGH)
+    }
+}
+
+fn point_holds(unit: BarometerUnit, p: Point) -> bool
+    ensures { λ r. ⌜ r ≡ pointHolds unit p ⌝ }
+{
+    let reading = p.reading;
+    let correction = p.correction;
+    let by = correction.0;
+    if unit.holds(reading.number()) {
+        return Correction::holds(by.number());
+    }
+    false
+}
+
+fn rises(p: Point, q: Point) -> bool
+    ensures { λ r. ⌜ r ≡ rises p q ⌝ }
+{
+    let a = p.reading;
+    let b = q.reading;
+    !b.number().at_most(a.number())
+}
+
+// Whether each of the first n points lies within its limits.
+fn points_hold(unit: BarometerUnit, points: [Point; POINTS], n: usize) -> bool
+    requires { ⌜ n ≤ 16 ⌝ }
+    ensures { λ r. ⌜ r ≡ every (λ i. pointHolds unit (pointAt points i)) 0 n ⌝ }
+{
+    let mut i: usize = 0;
+    while i < n {
+        let p = points[i];
+        if !point_holds(unit, p) {
+            return false;
+        }
+        i += 1;
+    }
+    true
+}
+
+// Whether each of the first n points but the last has a lower reading than the next.
+fn points_rise(points: [Point; POINTS], n: usize) -> bool
+    requires { ⌜ n ≤ 16 ⌝ }
+    ensures { λ r. ⌜ r ≡ every (λ i. rises (pointAt points i) (pointAt points (i + 1))) 0 (n - 1) ⌝ }
+{
+    let mut i: usize = 0;
+    while i + 1 < n {
+        let j = i + 1;
+        let p = points[i];
+        let q = points[j];
+        if !rises(p, q) {
+            return false;
+        }
+        i += 1;
+    }
+    true
+}
+
+fn certificate_holds(unit: BarometerUnit, count: u32, points: [Point; POINTS]) -> bool
+    ensures { λ r. ⌜ r ≡ certificateHolds unit count points ⌝ }
+{
+    if count < 2 {
+        return false;
+    }
+    if count > 16 {
+        return false;
+    }
+    let n = count as usize;
+    if points_hold(unit, points, n) {
+        return points_rise(points, n);
+    }
+    false
+}
+
+fn others_hold(h: Kept, d: Kept, k: Kept, a: Kept) -> bool
+    ensures { λ r. ⌜ r ≡ othersHold (h .v) (d .v) (k .v) (a .v) ⌝ }
+{
+    if !Height::holds(h.number()) {
+        return false;
+    }
+    if !SeaLevelDifference::holds(d.number()) {
+        return false;
+    }
+    if !TemperatureCoefficient::holds(k.number()) {
+        return false;
+    }
+    PsychrometerCoefficient::holds(a.number())
+}
+
+// Whether a store opens with these settings, or the first of refusals 9 and 10 that holds.
+pub fn check(settings: Settings) -> Checked
+    ensures { λ r. ⌜ checkedAs r ≡ checked settings ⌝ }
+{
+    let height = settings.height;
+    let difference = settings.difference;
+    let coefficient = settings.coefficient;
+    let psychrometer = settings.psychrometer;
+    if !others_hold(height.0, difference.0, coefficient.0, psychrometer.0) {
+        return Checked::OutsideLimits;
+    }
+    let unit = settings.unit;
+    let points = settings.points;
+    if !certificate_holds(unit, settings.count, points) {
+        return Checked::CertificateBroken;
+    }
+    Checked::Good
+}
