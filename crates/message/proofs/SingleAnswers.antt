@@ -25,7 +25,7 @@ use Rattle.message.proofs.receive.Reads as receive
 
 -- ---- the refusal of a number
 
-abbrev refusal : ℕ → MessageRefusal
+abbrev pub refusal : ℕ → MessageRefusal
 refusal n =
     cond (eqb n 1) NotSixteenBytes
     (cond (eqb n 2) NoSuchChannel
@@ -35,7 +35,7 @@ refusal n =
     (cond (eqb n 6) NotFinite
     OutsideLimits)))))
 
-refusal-back : (r : MessageRefusal) → refusal (numberOf r) ≡ r
+pub refusal-back : (r : MessageRefusal) → refusal (numberOf r) ≡ r
 refusal-back NotSixteenBytes = refl
 refusal-back NoSuchChannel = refl
 refusal-back ByteNotZero = refl
@@ -71,7 +71,7 @@ size none = 0
 abbrev kept : ℤ → Kept
 kept z = record { v = z }
 
-reading : ℕ → Figure → Figure → Reading
+pub reading : ℕ → Figure → Figure → Reading
 unfolding size
 reading channel (hPa z) y = Hectopascals (record { 0 = record { v = z } })
 reading channel (mmHg z) y = Millimetres (record { 0 = kept z })
@@ -83,7 +83,7 @@ reading channel (kn z) y = ShipMotion (record { 0 = natAbs z }) (record { 0 = si
 reading channel (deg z) y = WetBulb (record { 0 = kept z })
 reading channel none y = WetBulb (record { 0 = kept (pos 0) })
 
-entry-back : (t : ℕ) (r : Reading) → let e = entryOf t r in reading (e .channel) (e .first) (e .second) ≡ r
+pub entry-back : (t : ℕ) (r : Reading) → let e = entryOf t r in reading (e .channel) (e .first) (e .second) ≡ r
 unfolding reading size
 entry-back t (Hectopascals p) = refl
 entry-back t (Millimetres p) = refl
@@ -93,7 +93,7 @@ entry-back t (ShipMotion v d) = refl
 entry-back t (DryBulb x) = refl
 entry-back t (WetBulb x) = refl
 
-entry-minute : (t : ℕ) (r : Reading) → entryOf t r .minute ≡ t
+pub entry-minute : (t : ℕ) (r : Reading) → entryOf t r .minute ≡ t
 entry-minute t (Hectopascals p) = refl
 entry-minute t (Millimetres p) = refl
 entry-minute t (Wheelhouse x) = refl

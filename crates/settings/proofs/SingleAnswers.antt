@@ -30,11 +30,11 @@ single-psychrometer κs a r r′ s s′ p q = p ∙ sym q
 pub single-correction : Single correction.Post
 single-correction κs a r r′ s s′ p q = p ∙ sym q
 
-case-of : Answer ℕ (Unit {0}) → Checked
+pub case-of : Answer ℕ (Unit {0}) → Checked
 case-of (refused n) = cond (eqb n 9) OutsideLimits CertificateBroken
 case-of (given a) = Good
 
-case-back : (c : Checked) → case-of (checkedAs c) ≡ c
+pub case-back : (c : Checked) → case-of (checkedAs c) ≡ c
 unfolding case-of
 case-back Good = refl
 case-back OutsideLimits = refl

@@ -1,0 +1,54 @@
+-- From what the window answers to what the store answers, and what the block then holds. Assumes nothing.
+use mathlib.Core.Path.{_≡_, refl, sym, ap, _∙_}
+use mathlib.Core.Bool.{Bool, true, false}
+use mathlib.Core.List.{List}
+use Prim.Native.Nat.{ℕ}
+use Rattle.number.specs.Refusal.{refused, given}
+use Rattle.message.specs.Decode.{numberOf}
+use Rattle.message.specs.Receive.{Entry, received}
+use Rattle.message.specs.declared.MessageRefusal.{MessageRefusal}
+use Rattle.window.specs.Window.{Taken}
+use Rattle.store.specs.Cells.{cellOf}
+use Rattle.store.specs.Block.{unitOf, windowOf, replaced, isLater, heardBy, Keeps, Hears}
+use Rattle.store.specs.declared.Hearing.{Hearing}
+use Rattle.store.specs.declared.Hearing.the-variants.{Heard, Refused, NotLater}
+use Rattle.store.proofs.BlockLaws.{put-back}
+use Rattle.store.proofs.HearingLaws.{hearing-refused, hearing-given}
+
+-- ---- one entry
+
+module _ (s : List ℕ) (e : Entry) (w : List ℕ) (r : Bool) (t : Taken (windowOf (e .channel) s) w (e .minute) (cellOf e) r) where
+  pub keeps-heard : r ≡ true → Keeps s (replaced s (e .channel) w) e Heard
+  keeps-heard h =
+      let later : isLater s e ≡ true = sym (t .answer) ∙ h in
+      record { answer = rw later; block = rw later (ap (replaced s (e .channel)) (rw later at (t .words))) }
+
+  pub keeps-refused : r ≡ false → Keeps s (replaced s (e .channel) w) e NotLater
+  keeps-refused h =
+      let later : isLater s e ≡ false = sym (t .answer) ∙ h in
+      record { answer = rw later; block = rw later (ap (replaced s (e .channel)) (rw later at (t .words)) ∙ put-back s (e .channel)) }
+
+-- the same where channel, minute and cell were worked out apart
+module _ (s : List ℕ) (e : Entry) (c t v : ℕ) (w : List ℕ) (r : Bool) (p : c ≡ e .channel) (q : t ≡ e .minute) (k : v ≡ cellOf e)
+    (offered : Taken (windowOf c s) w t v r) where
+  pub heard-at : r ≡ true → Keeps s (replaced s c w) e Heard
+  heard-at h = rw p (keeps-heard s e w r (rw (p, q, k) at offered) h)
+
+  pub refused-at : r ≡ false → Keeps s (replaced s c w) e NotLater
+  refused-at h = rw p (keeps-refused s e w r (rw (p, q, k) at offered) h)
+
+-- ---- a message
+
+pub hears-refused : (s m : List ℕ) (r : MessageRefusal) → received (unitOf s) m ≡ refused (numberOf r) → Hears s s m (Refused r)
+unfolding heardBy
+hears-refused s m r e =
+    let h = hearing-refused s m (numberOf r) e in
+    record { answer = rw h; block = rw h }
+
+pub hears-kept : (s s′ m : List ℕ) (e : Entry) (h : Hearing) → received (unitOf s) m ≡ given e → Keeps s s′ e h → Hears s s′ m h
+unfolding heardBy
+hears-kept s s′ m e h g k = go (isLater s e) refl
+  where
+    go : (b : Bool) → isLater s e ≡ b → Hears s s′ m h
+    go true l = let a = hearing-given s m e g in record { answer = rw (a, l) (k .answer ∙ rw l); block = rw (a, l) (k .block ∙ rw l) }
+    go false l = let a = hearing-given s m e g in record { answer = rw (a, l) (k .answer ∙ rw l); block = rw (a, l) (k .block ∙ rw l) }

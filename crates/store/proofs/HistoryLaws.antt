@@ -1,0 +1,270 @@
+-- The block holds what the messages mean: an opened block remembers nothing, and with each message heard it remembers what the
+-- longer list of messages means. Channel by channel: what a window means (Means) goes on by the laws of an accepted value, and the
+-- other windows stay. Assumes nothing.
+use mathlib.Core.Path.{_≡_, refl, sym, ap, _∙_, subst}
+use mathlib.Core.Bool.{Bool, true, false, _&&_, cond}
+use mathlib.Core.List.{List, [], _∷_}
+use Prim.Native.Nat.{ℕ, suc, _+_, _≤_, _<_}
+use native.Mathlib.Omega.{arith}
+use native.Mathlib.Decide.{ℕ-discrete, decLt}
+use lib.Dec.{eqb, leb, lit<}
+use lib.ListN.{getD, take, length}
+use lib.Seq.{getD-take}
+use borrow.Author.Tests.{leb-true, leb-false, eqb-true, lt-ltb, le-leb, lt-leb, eq-eqb, ne-eqb}
+use Rattle.number.specs.Refusal.{Answer, refused, given}
+use Rattle.quantity.specs.declared.BarometerUnit.{BarometerUnit}
+use Rattle.quantity.specs.declared.BarometerUnit.the-variants.{Hectopascals, Millimetres}
+use Rattle.message.specs.Receive.{Entry, received}
+use Rattle.settings.specs.Settings.{checked}
+use Rattle.settings.specs.declared.Settings.{Settings}
+use Rattle.window.specs.Layout.{MINUTES, WINDOW}
+use Rattle.window.specs.Window.{next, takes, present, accepted}
+use Rattle.window.specs.Window as window
+use Rattle.window.specs.declared.Found.{Found}
+use Rattle.window.specs.declared.Found.the-variants.{Absent, Cell}
+use Rattle.window.proofs.PresentLaws.{present-late}
+use Rattle.window.proofs.KeptLaws.{absent-kept, length-after, next-after, present-after, kept-after}
+use Rattle.store.specs.Layout.{CHANNELS, SETTINGS, WORDS}
+use Rattle.store.specs.Cells.{cellOf, entryIn}
+use Rattle.store.specs.Block.{opened, unitOf, windowOf, isLater, hearing, kept, heardBy, Recall, absent, recalled, recallIn, recallOf}
+use Rattle.store.specs.History.{nextOf, grown, history, lookup, remembered, isPresent, Remembers}
+use Rattle.store.proofs.CellLaws.{Back, received-back}
+use Rattle.store.proofs.BlockLaws.{window-long, replaced-long, here, beside, settings-stay}
+use Rattle.store.proofs.OpenedLaws.{opened-long, opened-unit, opened-next}
+use Rattle.store.proofs.HearingLaws.{hearing-refused, hearing-given, heard-refused, heard-given}
+
+-- ---- histories
+
+pub remembered-in : (H : List Entry) (j : ℕ) → nextOf H ≤ j + MINUTES → remembered H j ≡ lookup H j
+unfolding remembered
+remembered-in H j l = rw (le-leb (nextOf H) (j + MINUTES) l)
+
+pub remembered-gone : (H : List Entry) (j : ℕ) → j + MINUTES < nextOf H → remembered H j ≡ absent
+unfolding remembered
+remembered-gone H j l = rw (lt-leb (nextOf H) (j + MINUTES) l)
+
+-- one entry more, later than the others
+pub remembered-step : (e : Entry) (H : List Entry) (j : ℕ) → nextOf H ≤ e .minute
+    → remembered (e ∷ H) j
+    ≡ cond (eqb j (e .minute)) (recalled e) (cond (leb (suc (e .minute)) (j + MINUTES)) (remembered H j) absent)
+remembered-step e H j n = go (ℕ-discrete j (e .minute)) (decLt (e .minute) (j + MINUTES))
+  where
+    other : (j ≡ e .minute → ⊥) → lookup (e ∷ H) j ≡ lookup H j
+    other p = rw (ne-eqb (e .minute) j (λ q. p (sym q)))
+
+    own : j ≡ e .minute → lookup (e ∷ H) j ≡ recalled e
+    own p = rw (eq-eqb (e .minute) j (sym p))
+
+    go : Dec (j ≡ e .minute) → Dec (e .minute < j + MINUTES)
+        → remembered (e ∷ H) j
+        ≡ cond (eqb j (e .minute)) (recalled e) (cond (leb (suc (e .minute)) (j + MINUTES)) (remembered H j) absent)
+    go (yes p) l = rw (eq-eqb j (e .minute) p) (remembered-in (e ∷ H) j (omega arith) ∙ own p)
+    go (no p) (yes l) =
+        rw (ne-eqb j (e .minute) p, le-leb (suc (e .minute)) (j + MINUTES) (omega arith))
+        (remembered-in (e ∷ H) j (omega arith) ∙ other p ∙ sym (remembered-in H j (omega arith)))
+    go (no p) (no l) =
+        rw (ne-eqb j (e .minute) p, lt-leb (suc (e .minute)) (j + MINUTES) (omega arith)) (remembered-gone (e ∷ H) j (omega arith))
+
+-- what a channel's history grows by
+pub grown-other : (c : ℕ) (H : List Entry) (e : Entry) → (e .channel ≡ c → ⊥) → grown c H (given e) ≡ H
+grown-other c H e ne = rw (ne-eqb (e .channel) c ne)
+
+grown-early : (c : ℕ) (H : List Entry) (e : Entry) → (e .channel ≡ c → e .minute < nextOf H) → grown c H (given e) ≡ H
+grown-early c H e early = go (ℕ-discrete (e .channel) c)
+  where
+    go : Dec (e .channel ≡ c) → grown c H (given e) ≡ H
+    go (yes p) = rw (eq-eqb (e .channel) c p, lt-leb (nextOf H) (e .minute) (early p))
+    go (no p) = grown-other c H e p
+
+grown-own : (H : List Entry) (e : Entry) → nextOf H ≤ e .minute → grown (e .channel) H (given e) ≡ e ∷ H
+grown-own H e l = rw (eq-eqb (e .channel) (e .channel) refl, le-leb (nextOf H) (e .minute) l)
+
+pub history-step : (u : BarometerUnit) (c : ℕ) (M : List (List ℕ)) (m : List ℕ) {a : Answer ℕ Entry} → received u m ≡ a
+    → history u c (m ∷ M) ≡ grown c (history u c M) a
+unfolding history
+history-step u c M m r = ap (grown c (history u c M)) r
+
+-- ---- one channel
+
+record Means (u : BarometerUnit) (c : ℕ) (w : List ℕ) (H : List Entry) : Type 0 where
+  newest : next w ≡ nextOf H
+  bits : (j : ℕ) → present w j ≡ isPresent (remembered H j)
+  cells : (j : ℕ) → recallIn u c j (window.kept w j) ≡ remembered H j
+
+present-cond : (a b p : Bool) (e : Entry) (r : Recall) → p ≡ isPresent r
+    → cond a true (b && p) ≡ isPresent (cond a (recalled e) (cond b r absent))
+present-cond true b p e r q = refl
+present-cond false true p e r q = q
+present-cond false false p e r q = refl
+
+recall-cond : (u : BarometerUnit) (c j v : ℕ) (k : Found) (e : Entry) (r : Recall) (a b : Bool)
+    → (a ≡ true → recallIn u c j (Cell v) ≡ recalled e) → recallIn u c j k ≡ r
+    → recallIn u c j (cond a (Cell v) (cond b k Absent)) ≡ cond a (recalled e) (cond b r absent)
+recall-cond u c j v k e r true b own q = own refl
+recall-cond u c j v k e r false true own q = q
+recall-cond u c j v k e r false false own q = refl
+
+means-nothing : (u : BarometerUnit) (c : ℕ) (w : List ℕ) → next w ≡ 0 → Means u c w []
+means-nothing u c w z = record {
+  newest = z;
+  bits = λ j. gone j ∙ ap isPresent (sym (remembered-in [] j (omega arith)));
+  cells = λ j. ap (recallIn u c j) (absent-kept w j (gone j)) ∙ sym (remembered-in [] j (omega arith));
+}
+  where
+    gone : (j : ℕ) → present w j ≡ false
+    gone j = present-late w j (omega arith)
+
+-- an entry later than all of them is kept
+means-more : (u : BarometerUnit) (e : Entry) (w : List ℕ) (H : List Entry) → length w ≡ WINDOW → Back u e → nextOf H ≤ e .minute
+    → Means u (e .channel) w H → Means u (e .channel) (accepted w (e .minute) (cellOf e)) (e ∷ H)
+means-more u e w H long back l k = record {
+  newest = next-after w (e .minute) (cellOf e) long;
+  bits = λ j.
+      present-after w (e .minute) (cellOf e) long (omega (arith, k .newest)) j
+      ∙ present-cond (eqb j (e .minute)) (leb (suc (e .minute)) (j + MINUTES)) (present w j) e (remembered H j) (k .bits j)
+      ∙ ap isPresent (sym (remembered-step e H j l));
+  cells = λ j.
+      ap (recallIn u (e .channel) j) (kept-after w (e .minute) (cellOf e) long (omega (arith, k .newest)) j)
+      ∙ recall-cond u (e .channel) j (cellOf e) (window.kept w j) e (remembered H j)
+      (eqb j (e .minute)) (leb (suc (e .minute)) (j + MINUTES)) (own j) (k .cells j)
+      ∙ sym (remembered-step e H j l);
+}
+  where
+    own : (j : ℕ) → eqb j (e .minute) ≡ true → recallIn u (e .channel) j (Cell (cellOf e)) ≡ recalled e
+    own j q =
+        ap (λ (i : ℕ). recallIn u (e .channel) i (Cell (cellOf e))) (eqb-true j (e .minute) q)
+        ∙ ap (λ (x : Bool). cond x (recalled (entryIn u (e .channel) (e .minute) (cellOf e))) absent) (back .sound)
+        ∙ ap recalled (back .same)
+
+-- ---- the block
+
+recall-is : (s : List ℕ) (u : BarometerUnit) (c j : ℕ) → unitOf s ≡ u → c < CHANNELS
+    → recallOf s c j ≡ recallIn u c j (window.kept (windowOf c s) j)
+unfolding recallOf
+recall-is s u c j e l = rw (lt-ltb c CHANNELS l) (ap (λ (v : BarometerUnit). recallIn v c j (window.kept (windowOf c s) j)) e)
+
+means : (s : List ℕ) (u : BarometerUnit) (M : List (List ℕ)) (c : ℕ) → c < CHANNELS → Remembers s u M → Means u c (windowOf c s) (history u c M)
+means s u M c l r = record {
+  newest = r .newest c l;
+  bits = r .bits c l;
+  cells = λ j. sym (recall-is s u c j (r .unit) l) ∙ r .cells c l j;
+}
+
+remembers : (s : List ℕ) (u : BarometerUnit) (M : List (List ℕ)) → length s ≡ WORDS → unitOf s ≡ u
+    → ((c : ℕ) → c < CHANNELS → Means u c (windowOf c s) (history u c M)) → Remembers s u M
+remembers s u M long unit k = record {
+  long = long;
+  unit = unit;
+  newest = λ c l. k c l .newest;
+  bits = λ c l. k c l .bits;
+  cells = λ c l j. recall-is s u c j unit l ∙ k c l .cells j;
+}
+
+pub opened-remembers : (g : Settings) → checked g ≡ given tt → Remembers (opened g) (g .unit) []
+unfolding history
+opened-remembers g good =
+    remembers (opened g) (g .unit) [] (opened-long g) (opened-unit g)
+    (λ c l. means-nothing (g .unit) c (windowOf c (opened g)) (opened-next g good c l))
+
+-- a message that nothing is kept of
+unchanged : (s : List ℕ) (u : BarometerUnit) (M : List (List ℕ)) (m : List ℕ) → Remembers s u M
+    → ((c : ℕ) → history u c (m ∷ M) ≡ history u c M) → heardBy s m ≡ s → Remembers (heardBy s m) u (m ∷ M)
+unchanged s u M m r same stays =
+    subst (λ (x : List ℕ). Remembers x u (m ∷ M)) (sym stays)
+    (remembers s u (m ∷ M) (r .long) (r .unit) (λ c l. subst (Means u c (windowOf c s)) (sym (same c)) (means s u M c l r)))
+
+unit-stays : (s t : List ℕ) → take SETTINGS t ≡ take SETTINGS s → unitOf t ≡ unitOf s
+unit-stays s t e = ap (λ (n : ℕ). cond (eqb n 0) Hectopascals Millimetres) same
+  where
+    same : getD t 0 0 ≡ getD s 0 0
+    same = sym (getD-take SETTINGS t 0 0 (lit< tt)) ∙ ap (λ (l : List ℕ). getD l 0 0) e ∙ getD-take SETTINGS s 0 0 (lit< tt)
+
+-- a message that is kept
+changed : (s : List ℕ) (u : BarometerUnit) (M : List (List ℕ)) (m : List ℕ) (e : Entry) → Remembers s u M → received u m ≡ given e
+    → nextOf (history u (e .channel) M) ≤ e .minute → Remembers (kept s e) u (m ∷ M)
+changed s u M m e r g l =
+    remembers (kept s e) u (m ∷ M) (replaced-long s (e .channel) w (r .long) lc long)
+    (unit-stays s (kept s e) (settings-stay s (e .channel) w (r .long) lc long) ∙ r .unit)
+    (λ c k. go c k (ℕ-discrete c (e .channel)))
+  where
+    back : Back u e × (e .channel < CHANNELS)
+    back = received-back u m e g
+
+    lc : e .channel < CHANNELS
+    lc = back .1
+
+    before : length (windowOf (e .channel) s) ≡ WINDOW
+    before = window-long s (e .channel) (r .long) lc
+
+    w : List ℕ
+    w = accepted (windowOf (e .channel) s) (e .minute) (cellOf e)
+
+    long : length w ≡ WINDOW
+    long = length-after (windowOf (e .channel) s) (e .minute) (cellOf e) before ∙ before
+
+    own : Means u (e .channel) (windowOf (e .channel) (kept s e)) (history u (e .channel) (m ∷ M))
+    own =
+        rw (
+          here s (e .channel) w (r .long) lc long,
+          history-step u (e .channel) M m g,
+          grown-own (history u (e .channel) M) e l,
+        )
+        (means-more u e (windowOf (e .channel) s) (history u (e .channel) M) before (back .0) l (means s u M (e .channel) lc r))
+
+    go : (c : ℕ) → c < CHANNELS → Dec (c ≡ e .channel) → Means u c (windowOf c (kept s e)) (history u c (m ∷ M))
+    go c k (yes p) = subst (λ (d : ℕ). Means u d (windowOf d (kept s e)) (history u d (m ∷ M))) (sym p) own
+    go c k (no p) =
+        rw (
+          beside s (e .channel) w (r .long) lc long c p,
+          history-step u c M m g,
+          grown-other c (history u c M) e (λ q. p (sym q)),
+        )
+        (means s u M c k r)
+
+takes-is : (w : List ℕ) (t : ℕ) → length w ≡ WINDOW → takes w t ≡ leb (next w) t
+unfolding takes
+takes-is w t e = rw (eq-eqb (length w) WINDOW e)
+
+pub heard-remembers : (s : List ℕ) (u : BarometerUnit) (M : List (List ℕ)) (m : List ℕ) → Remembers s u M → Remembers (heardBy s m) u (m ∷ M)
+heard-remembers s u M m r = go (received u m) refl
+  where
+    seen : (a : Answer ℕ Entry) → received u m ≡ a → received (unitOf s) m ≡ a
+    seen a g = subst (λ (v : BarometerUnit). received v m ≡ a) (sym (r .unit)) g
+
+    is-later : (e : Entry) → e .channel < CHANNELS → isLater s e ≡ leb (nextOf (history u (e .channel) M)) (e .minute)
+    is-later e l =
+        takes-is (windowOf (e .channel) s) (e .minute) (window-long s (e .channel) (r .long) l)
+        ∙ ap (λ (n : ℕ). leb n (e .minute)) (r .newest (e .channel) l)
+
+    hears : (e : Entry) → received u m ≡ given e → (b : Bool) → leb (nextOf (history u (e .channel) M)) (e .minute) ≡ b
+        → hearing s m ≡ cond b (given e) (refused 8)
+    hears e g b t =
+        hearing-given s m e (seen (given e) g)
+        ∙ ap (λ (x : Bool). cond x (given e) (refused 8)) (is-later e (received-back u m e g .1) ∙ t)
+
+    by-time : (e : Entry) → received u m ≡ given e → (b : Bool) → leb (nextOf (history u (e .channel) M)) (e .minute) ≡ b
+        → Remembers (heardBy s m) u (m ∷ M)
+    by-time e g true t =
+        subst (λ (x : List ℕ). Remembers x u (m ∷ M)) (sym (heard-given s m e (hears e g true t)))
+        (changed s u M m e r g (leb-true (nextOf (history u (e .channel) M)) (e .minute) t))
+    by-time e g false t =
+        unchanged s u M m r (λ c. history-step u c M m g ∙ grown-early c (history u c M) e (early c)) (heard-refused s m 8 (hears e g false t))
+      where
+        early : (c : ℕ) → e .channel ≡ c → e .minute < nextOf (history u c M)
+        early c p =
+            subst (λ (d : ℕ). e .minute < nextOf (history u d M)) p (leb-false (nextOf (history u (e .channel) M)) (e .minute) t)
+
+    go : (a : Answer ℕ Entry) → received u m ≡ a → Remembers (heardBy s m) u (m ∷ M)
+    go (refused n) g = unchanged s u M m r (λ c. history-step u c M m g) (heard-refused s m n (hearing-refused s m n (seen (refused n) g)))
+    go (given e) g = by-time e g (leb (nextOf (history u (e .channel) M)) (e .minute)) refl
+
+-- ---- the store
+
+-- The block of a station with these settings that then heard the messages M, newest first.
+abbrev pub store-of : Settings → List (List ℕ) → List ℕ
+store-of g [] = opened g
+store-of g (m ∷ M) = heardBy (store-of g M) m
+
+pub store-remembers : (g : Settings) → checked g ≡ given tt → (M : List (List ℕ)) → Remembers (store-of g M) (g .unit) M
+store-remembers g good [] = opened-remembers g good
+store-remembers g good (m ∷ M) = heard-remembers (store-of g M) (g .unit) M m (store-remembers g good M)

@@ -1,0 +1,12 @@
+pub mod ReceivedLaws
+pub mod CellLaws
+pub mod BlockLaws
+pub mod ListedLaws
+pub mod OpenedLaws
+pub mod OpenLaws
+pub mod SettingsLaws
+pub mod HearingLaws
+pub mod HearLaws
+pub mod HistoryLaws
+pub mod StoreTheorems
+pub mod SingleAnswers

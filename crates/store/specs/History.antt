@@ -1,0 +1,59 @@
+-- What the messages mean. A message list has the newest first, the refused ones among them.
+use mathlib.Core.Path.{_≡_}
+use mathlib.Core.Bool.{Bool, true, false, _&&_, cond}
+use mathlib.Core.List.{List, [], _∷_}
+use Prim.Native.Nat.{ℕ, _+_, _<_}
+use lib.Dec.{eqb, leb}
+use lib.ListN.{length}
+use Rattle.number.specs.Refusal.{Answer, refused, given}
+use Rattle.quantity.specs.declared.BarometerUnit.{BarometerUnit}
+use Rattle.message.specs.Bytes.{channel}
+use Rattle.message.specs.Receive.{Entry, received}
+use Rattle.window.specs.Layout.{MINUTES}
+use Rattle.window.specs.Window.{next, present}
+use Rattle.store.specs.Layout.{CHANNELS, WORDS}
+use Rattle.store.specs.Block.{Recall, absent, recalled, unitOf, windowOf, recallOf}
+
+-- The minute after the newest that was accepted; 0 where none was.
+abbrev pub nextOf : List Entry → ℕ
+nextOf [] = 0
+nextOf (e ∷ H) = e .minute + 1
+
+-- "A message must be later than its channel's newest."
+abbrev pub grown : ℕ → List Entry → Answer ℕ Entry → List Entry
+grown c H (refused n) = H
+grown c H (given e) = cond (eqb (e .channel) c && leb (nextOf H) (e .minute)) (e ∷ H) H
+
+-- What a channel accepted of all messages sent, newest first.
+unfoldable pub history : BarometerUnit → ℕ → List (List ℕ) → List Entry
+history u c [] = []
+history u c (m ∷ M) = grown c (history u c M) (received u m)
+
+-- The messages that a channel was sent. Messages of wrong length or with a channel above 5 belong to no channel.
+abbrev pub belongs : ℕ → List ℕ → Bool
+belongs c m = eqb (length m) 16 && eqb (channel m) c
+
+abbrev pub of-channel : ℕ → List (List ℕ) → List (List ℕ)
+of-channel c [] = []
+of-channel c (m ∷ M) = cond (belongs c m) (m ∷ of-channel c M) (of-channel c M)
+
+-- "A minute without an accepted message is absent"
+abbrev pub lookup : List Entry → ℕ → Recall
+lookup [] j = absent
+lookup (e ∷ H) j = cond (eqb (e .minute) j) (recalled e) (lookup H j)
+
+-- "Each channel keeps its newest accepted minute and the 255 minutes before it."
+unfoldable pub remembered : List Entry → ℕ → Recall
+remembered H j = cond (leb (nextOf H) (j + MINUTES)) (lookup H j) absent
+
+abbrev pub isPresent : Recall → Bool
+isPresent absent = false
+isPresent (recalled e) = true
+
+-- The block holds what the messages M mean, on a station whose barometer reads in the unit u.
+pub record Remembers (s : List ℕ) (u : BarometerUnit) (M : List (List ℕ)) : Type 0 where
+  pub long : length s ≡ WORDS
+  pub unit : unitOf s ≡ u
+  pub newest : (c : ℕ) → c < CHANNELS → next (windowOf c s) ≡ nextOf (history u c M)
+  pub bits : (c : ℕ) → c < CHANNELS → (j : ℕ) → present (windowOf c s) j ≡ isPresent (remembered (history u c M) j)
+  pub cells : (c : ℕ) → c < CHANNELS → (j : ℕ) → recallOf s c j ≡ remembered (history u c M) j

@@ -1,0 +1,4 @@
+pub mod Layout
+pub mod Cells
+pub mod Block
+pub mod History

@@ -1,0 +1,39 @@
+-- What the steps of `keep` make is `accepted`, and what `accept` answers is `Taken`. Assumes nothing.
+use mathlib.Core.Path.{_≡_, sym, ap}
+use mathlib.Core.Bool.{true, false}
+use mathlib.Core.List.{List}
+use Prim.Native.Nat.{ℕ, _+_, _-_, _≤_, _<_, min}
+use native.Mathlib.Omega.{arith}
+use borrow.Author.Tests.{le-leb, lt-leb, eq-eqb, ne-eqb}
+use lib.ListN.{set, length}
+use Rattle.window.specs.Layout.{MINUTES, WINDOW, cellOf}
+use Rattle.window.specs.Window.{whole, next, mark, wiped, accepted, takes, Taken}
+use Rattle.window.proofs.PresentLaws.{and-no}
+
+pub accepted-is : (w w1 w2 : List ℕ) (m v n k : ℕ) → n ≡ min (m - next w) MINUTES → w1 ≡ wiped w (m - n) (m - (m - n))
+    → w2 ≡ mark w1 m → k ≡ cellOf m → set (set w2 k v) 0 (m + 1) ≡ accepted w m v
+unfolding accepted
+accepted-is w w1 w2 m v n k en e1 e2 ek =
+    rw (ek, e2, e1, back) (ap (λ (x : ℕ). set (set (mark (wiped w (m - x) x) m) (cellOf m) v) 0 (m + 1)) en)
+  where
+    back : m - (m - n) ≡ n
+    back = omega arith
+
+module _ (w : List ℕ) (m v : ℕ) where
+  refused : takes w m ≡ false → Taken w w m v false
+  refused e = record { answer = sym e; words = rw e }
+
+  pub taken-else : (length w ≡ WINDOW → ⊥) → Taken w w m v false
+  unfolding takes
+  taken-else ne = refused (rw (ne-eqb (length w) WINDOW ne))
+
+  pub taken-late : m < next w → Taken w w m v false
+  unfolding takes
+  taken-late l = refused (rw (lt-leb (next w) m l) (and-no (whole w)))
+
+  taken : length w ≡ WINDOW → next w ≤ m → takes w m ≡ true
+  unfolding takes
+  taken e l = rw (eq-eqb (length w) WINDOW e, le-leb (next w) m l)
+
+  pub taken-kept : (w′ : List ℕ) → length w ≡ WINDOW → next w ≤ m → w′ ≡ accepted w m v → Taken w w′ m v true
+  taken-kept w′ e l k = record { answer = sym (taken e l); words = rw (taken e l) k }

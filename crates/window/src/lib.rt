@@ -1,0 +1,222 @@
+// A channel's window: its part of the lent block. One word for the minute after the newest, one presence bit a minute, one cell
+// a minute. A slice of another length is no window: nothing is kept in it, and it takes nothing.
+ghost use mathlib.Core.Path.{_≡_};
+ghost use Prim.Native.Nat.{ℕ, _+_, _-_, _*_, _/_, _%_, _^_, _≤_, _<_, min, max};
+ghost use lib.ListN.{length, getD};
+ghost use Rattle.window.specs.Layout.{MINUTES, WINDOW, wordOf, cellOf};
+ghost use Rattle.window.specs.Bits.{bit, cleared, marked, total};
+ghost use Rattle.window.specs.Window.{bitOf, present, kept, clear, mark, wiped, accepted, Taken, absents};
+
+// Minutes kept for a channel: the newest and those before it.
+pub const MINUTES: u64 = 256;
+
+// The parts of a window.
+const NEXT: usize = 0;
+
+const HEARD: usize = 1;
+
+const CELLS: usize = HEARD + MINUTES as usize / 64;
+
+pub const WINDOW: usize = CELLS + MINUTES as usize;
+
+// What is kept of a minute.
+pub enum Found {
+    Absent,
+    Cell(u64),
+}
+
+// The word of a window that has a minute's presence bit.
+fn word_of(m: u64) -> usize
+    ensures { λ r. ⌜ r ≡ wordOf m ⌝ }
+{
+    HEARD + (m % MINUTES / 64) as usize
+}
+
+// The word of a window that is a minute's cell.
+fn cell_of(m: u64) -> usize
+    ensures { λ r. ⌜ r ≡ cellOf m ⌝ }
+{
+    CELLS + (m % MINUTES) as usize
+}
+
+// The bit k of w: 0 or 1.
+fn bit(w: u64, k: u64) -> u64
+    requires { ⌜ k < 64 ⌝ }
+    ensures { λ r. ⌜ r ≡ bit w k ⌝ }
+{
+    w / number::power(k) % 2
+}
+
+// w with its bit k cleared.
+fn cleared(w: u64, k: u64) -> u64
+    requires { ⌜ k < 64 ⌝ }
+    ensures { λ r. ⌜ r ≡ cleared w k ⌝ }
+{
+    let p = number::power(k);
+    if w / p % 2 == 0 { w } else { w - p }
+}
+
+// w with its bit k set.
+fn marked(w: u64, k: u64) -> u64
+    requires { ⌜ (k < 64) × (w < 2 ^ 64) ⌝ }
+    ensures { λ r. ⌜ r ≡ marked w k ⌝ }
+{
+    let p = number::power(k);
+    if w / p % 2 == 0 { w + p } else { w }
+}
+
+// How many of the n bits of w from o on are set.
+fn ones_in(w: u64, o: u64, n: u64) -> u64
+    requires { ⌜ (0 < n) × (o + n ≤ 64) ⌝ }
+    ensures { λ r. ⌜ (r ≡ total (bit w) o n) × (r ≤ n) ⌝ }
+{
+    u64::count_ones((w >> o) & (0xffff_ffff_ffff_ffff >> (64 - n))) as u64
+}
+
+// How many of the next `left` minutes from `at` on share a word with it.
+fn reach(at: u64, left: u64) -> u64
+    requires { ⌜ 0 < left ⌝ }
+    ensures { λ r. ⌜ (0 < r) × (r ≤ left) × (at % 64 + r ≤ 64) ⌝ }
+{
+    let m = 64 - at % 64;
+    if left < m { left } else { m }
+}
+
+// How many of the n minutes from `from` on have their bit set: whole words, masked to those minutes.
+fn heard_among(window: &[u64], from: u64, n: u64) -> u64
+    requires { ⌜ (length (now window) ≡ WINDOW) × (from + n < 2 ^ 64) ⌝ }
+    ensures { λ r. ⌜ (r ≡ total (bitOf (now (window .entry))) from n) × (r ≤ n) ⌝ }
+{
+    let mut at = from;
+    let mut left = n;
+    let mut sum: u64 = 0;
+    while left > 0 {
+        let m = reach(at, left);
+        let i = word_of(at);
+        sum += ones_in(window[i], at % 64, m);
+        at += m;
+        left -= m;
+    }
+    sum
+}
+
+// Marks a minute as absent.
+fn clear(window: &mut [u64], m: u64)
+    requires { ⌜ length (now window) ≡ WINDOW ⌝ }
+    ensures { λ r. ⌜ now (window .exit) ≡ clear (now (window .entry)) m ⌝ }
+{
+    let i = word_of(m);
+    let w = window[i];
+    window[i] = cleared(w, m % 64);
+}
+
+// Marks the minutes from `from` up to `to`, not included, as absent, one after the other.
+fn wipe(window: &mut [u64], from: u64, to: u64)
+    requires { ⌜ (length (now window) ≡ WINDOW) × (from ≤ to) ⌝ }
+    ensures { λ r. ⌜ now (window .exit) ≡ wiped (now (window .entry)) from (to - from) ⌝ }
+{
+    let mut m = from;
+    while m < to {
+        clear(window, m);
+        m += 1;
+    }
+}
+
+// Marks a minute as heard.
+fn mark(window: &mut [u64], m: u64)
+    requires { ⌜ length (now window) ≡ WINDOW ⌝ }
+    ensures { λ r. ⌜ now (window .exit) ≡ mark (now (window .entry)) m ⌝ }
+{
+    let i = word_of(m);
+    let w = window[i];
+    window[i] = marked(w, m % 64);
+}
+
+// a - b, or 0.
+fn less(a: u64, b: u64) -> u64
+    ensures { λ r. ⌜ r ≡ a - b ⌝ }
+{
+    if a < b { 0 } else { a - b }
+}
+
+fn larger(a: u64, b: u64) -> u64
+    ensures { λ r. ⌜ r ≡ max a b ⌝ }
+{
+    if a < b { b } else { a }
+}
+
+fn smaller(a: u64, b: u64) -> u64
+    ensures { λ r. ⌜ r ≡ min a b ⌝ }
+{
+    if a < b { a } else { b }
+}
+
+// Keeps a value for a minute that is later than the newest; the minutes jumped over become absent.
+fn keep(window: &mut [u64], m: u64, value: u64)
+    requires { ⌜ (length (now window) ≡ WINDOW) × (getD (now window) 0 0 ≤ m) × (m + 1 < 2 ^ 64) ⌝ }
+    ensures { λ r. ⌜ now (window .exit) ≡ accepted (now (window .entry)) m value ⌝ }
+{
+    let t = window[NEXT];
+    let n = smaller(m - t, MINUTES);
+    wipe(window, m - n, m);
+    mark(window, m);
+    let k = cell_of(m);
+    window[k] = value;
+    window[NEXT] = m + 1;
+}
+
+// Takes a value for a minute, if it is later than the newest: true, and the value is kept; else false, and nothing changes.
+pub fn accept(window: &mut [u64], minute: u32, value: u64) -> bool
+    ensures { λ r. ⌜ Taken (now (window .entry)) (now (window .exit)) minute value r ⌝ }
+{
+    let m = minute as u64;
+    if window.len() != WINDOW {
+        return false;
+    }
+    if m < window[NEXT] {
+        return false;
+    }
+    keep(window, m, value);
+    true
+}
+
+// What is kept of a minute.
+pub fn find(window: &[u64], minute: u32) -> Found
+    ensures { λ r. ⌜ r ≡ kept (now (window .entry)) minute ⌝ }
+{
+    let m = minute as u64;
+    if window.len() != WINDOW {
+        return Found::Absent;
+    }
+    let t = window[NEXT];
+    if m >= t {
+        return Found::Absent;
+    }
+    if t - m > MINUTES {
+        return Found::Absent;
+    }
+    let i = word_of(m);
+    if bit(window[i], m % 64) == 0 {
+        return Found::Absent;
+    }
+    let k = cell_of(m);
+    Found::Cell(window[k])
+}
+
+// How many of the n minutes before a minute are absent.
+pub fn missed(window: &[u64], minute: u32, n: u32) -> u64
+    ensures { λ r. ⌜ r ≡ absents (present (now (window .entry))) minute n ⌝ }
+{
+    let m = minute as u64;
+    let all = n as u64;
+    if window.len() != WINDOW {
+        return all;
+    }
+    let t = window[NEXT];
+    let lo = larger(less(m, all), less(t, MINUTES));
+    let hi = smaller(m, t);
+    if lo < hi {
+        return all - heard_among(window, lo, hi - lo);
+    }
+    all
+}
