@@ -244,9 +244,9 @@ fn window_of(store: &Store, c: usize) -> &[u64]
     ensures { λ r. ⌜ now r ≡ windowOf c (now (store .entry)) ⌝ }
 {
     let s = &store[..];
-    let a = SETTINGS + c * WINDOW;
-    let e = a + WINDOW;
-    &s[a..e]
+    let from = SETTINGS + c * WINDOW;
+    let to = from + WINDOW;
+    &s[from..to]
 }
 
 fn half(v: u64) -> u32

@@ -5,14 +5,14 @@ use borrow.Author.Needs.{needs}
 use Rattle.store.proofs.window_of.Statement.{statement}
 use Rattle.store.proofs.window_of.Tie as tie
 
-mul-a : tie.Need-mul-a
-mul-a c = search needs
+mul-from : tie.Need-mul-from
+mul-from c = search needs
 
-add-a : tie.Need-add-a
-add-a c = search needs
+add-from : tie.Need-add-from
+add-from c = search needs
 
-add-e : tie.Need-add-e
-add-e c = search needs
+add-to : tie.Need-add-to
+add-to c = search needs
 
 mul-result : tie.Need-mul-result
 mul-result c = search needs
@@ -32,4 +32,12 @@ returns c = rw (span (c .before .before .args .c)) refl
 pub window-of-spec : {M : Type 1} → statement M
 window-of-spec =
     tie.close
-    (tie.spec mul-a add-a add-e mul-result sub-result part-result-start part-result-end returns)
+    (tie.spec
+    mul-from
+    add-from
+    add-to
+    mul-result
+    sub-result
+    part-result-start
+    part-result-end
+    returns)

@@ -1,0 +1,34 @@
+-- `open` meets its contract: the settings are good, and an opened store remembers nothing. Assumes nothing.
+use mathlib.Core.Path.{sym, ap, _∙_, subst}
+use mathlib.Core.List.{List, []}
+use Prim.Native.Nat.{ℕ}
+use denote.Ref.{now}
+use Rattle.quantity.specs.declared.BarometerUnit.the-variants.{Hectopascals}
+use Rattle.store.specs.Block.{isGiven}
+use Rattle.store.specs.History.{Remembers}
+use Rattle.gap.proofs.WatchLaws.{opened-well}
+use borrow.Author.Needs.{needs}
+use Rattle.gap.proofs.open.Statement.{statement}
+use Rattle.gap.proofs.open.Tie as tie
+
+settings-requires : tie.Need-settings-requires
+settings-requires c κs = search needs
+
+open-requires : tie.Need-open-requires
+open-requires c κs = search needs
+
+is-good-requires : tie.Need-is-good-requires
+is-good-requires c κs = search needs
+
+expect-requires : tie.Need-expect-requires
+expect-requires c κs = c .is-good .ensures ∙ ap isGiven (c .before .«open» .ensures .0 ∙ c .before .before .settings .ensures .0)
+
+returns : tie.Need-returns
+returns c =
+    let set = c .before .before .before .settings in
+    subst (λ (s : List ℕ). Remembers s Hectopascals []) (sym (c .before .before .«open» .ensures .1))
+    (opened-well (now (c .before .before .before .before .before .args .store)) (set .result) (set .ensures .0) (set .ensures .1))
+
+pub open-spec : {M : Type 1} → statement M
+open-spec =
+    tie.close (tie.spec settings-requires open-requires is-good-requires expect-requires returns)

@@ -1,0 +1,19 @@
+-- `zhitomrak_hear` meets its contract. Assumes nothing.
+use mathlib.Core.Path.{ap, _∙_}
+use Rattle.zhitomrak.specs.Numbers.{numberOf}
+use borrow.Author.Needs.{needs}
+use Rattle.zhitomrak.proofs.zhitomrak_hear.Statement.{statement}
+use Rattle.zhitomrak.proofs.zhitomrak_hear.Tie as tie
+
+hear-requires : tie.Need-hear-requires
+hear-requires c κs = search needs
+
+number-of-requires : tie.Need-number-of-requires
+number-of-requires c κs = search needs
+
+returns : tie.Need-returns
+returns c =
+    record { answer = c .number-of .ensures ∙ ap numberOf (c .before .hear .ensures .answer); block = c .before .hear .ensures .block }
+
+pub zhitomrak-hear-spec : {M : Type 1} → statement M
+zhitomrak-hear-spec = tie.close (tie.spec hear-requires number-of-requires returns)
