@@ -10,3 +10,4 @@ pub mod HearLaws
 pub mod HistoryLaws
 pub mod StoreTheorems
 pub mod SingleAnswers
+pub mod RefusalsInOrder

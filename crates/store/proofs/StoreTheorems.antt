@@ -123,6 +123,39 @@ pub stays-absent : (u : BarometerUnit) (c : ℕ) (M : List (List ℕ)) (m : List
     → remembered (history u c M) j ≡ absent → j < nextOf (history u c M) → remembered (history u c (m ∷ M)) j ≡ absent
 stays-absent u c M m j a l = stays-absent-on u c (m ∷ []) M j a l
 
+-- ---- "one jumped over, or before the channel's first, stays so"
+
+-- nothing was accepted from the minute after the newest on
+grown-late : (c : ℕ) (H : List Entry) (a : Answer ℕ Entry) → ((j : ℕ) → nextOf H ≤ j → lookup H j ≡ absent) →
+    (j : ℕ) → nextOf (grown c H a) ≤ j → lookup (grown c H a) j ≡ absent
+grown-late c H (refused n) late j h = late j h
+grown-late c H (given e) late j h = go (eqb (e .channel) c && leb (nextOf H) (e .minute)) refl
+  where
+    go : (b : Bool) → (eqb (e .channel) c && leb (nextOf H) (e .minute)) ≡ b → lookup (grown c H (given e)) j ≡ absent
+    go true t =
+        let l = leb-true (nextOf H) (e .minute) (and-true (eqb (e .channel) c) (leb (nextOf H) (e .minute)) t .1) in
+        let k : e .minute + 1 ≤ j = rw t at h in
+        rw (t, ne-eqb (e .minute) j (λ q. omega arith)) (late j (omega arith))
+    go false t = rw t (late j (rw t at h))
+
+late : (u : BarometerUnit) (c : ℕ) (M : List (List ℕ)) (j : ℕ) → nextOf (history u c M) ≤ j → lookup (history u c M) j ≡ absent
+unfolding history
+late u c [] j h = refl
+late u c (m ∷ M) j h = grown-late c (history u c M) (received u m) (late u c M) j h
+
+-- A minute between the newest and the next that is accepted is absent; before the first, every one is.
+pub jumped-over : (u : BarometerUnit) (c : ℕ) (M : List (List ℕ)) (e : Entry) (j : ℕ) →
+    nextOf (history u c M) ≤ j → j < e .minute → remembered (e ∷ history u c M) j ≡ absent
+unfolding remembered
+jumped-over u c M e j l h = go (leb (e .minute + 1) (j + MINUTES))
+  where
+    gone : lookup (e ∷ history u c M) j ≡ absent
+    gone = rw (ne-eqb (e .minute) j (λ q. omega arith)) (late u c M j l)
+
+    go : (b : Bool) → cond b (lookup (e ∷ history u c M) j) absent ≡ absent
+    go true = gone
+    go false = refl
+
 -- ---- "Each channel keeps its newest accepted minute and the 255 minutes before it."
 
 module _ (e : Entry) (H : List Entry) where
