@@ -14,6 +14,12 @@ extern "C" {
     fn zhitomrak_missing_minutes(store: *const u64, channel: u32, minute: u32) -> u64;
 }
 
+/// To the nearest whole number, halves away from zero, without a call of the C library: a value of few digits plus a half is
+/// exact, and the cast cuts.
+fn nearest(v: f64) -> i64 {
+    (v + 0.5f64.copysign(v)) as i64
+}
+
 #[derive(Clone)]
 struct Window {
     next: u32,
@@ -56,16 +62,16 @@ impl Plain {
         if !x.is_finite() || !y.is_finite() {
             return 6;
         }
-        let first = (x as f64 * 10.0).round();
-        let second = (y as f64).round();
+        let first = nearest(x as f64 * 10.0);
+        let second = nearest(y as f64);
         let (low, high) = match channel {
-            0 => (8500.0, 11000.0),
-            1 => (-400.0, 600.0),
-            2 => (0.0, 750.0),
-            3 => (0.0, 400.0),
-            _ => (-400.0, 500.0),
+            0 => (8500, 11000),
+            1 => (-400, 600),
+            2 => (0, 750),
+            3 => (0, 400),
+            _ => (-400, 500),
         };
-        if first < low || first > high || (two && !(0.0..=360.0).contains(&second)) {
+        if first < low || first > high || (two && !(0..=360).contains(&second)) {
             return 7;
         }
         let w = &mut self.windows[channel];
@@ -83,19 +89,20 @@ impl Plain {
         0
     }
 
-    /// Plain Rust, minute by minute.
+    /// Plain Rust, by masked words too.
     #[inline(never)]
     fn missing(&self, channel: usize, minute: u32) -> u64 {
         let w = &self.windows[channel];
-        let mut absent = 0;
-        for k in 1..180 {
-            let there = k <= minute && {
-                let j = minute - k;
-                j < w.next && w.next <= j + 256 && w.bits[(j % 256 / 64) as usize] >> (j % 64) & 1 == 1
-            };
-            absent += !there as u64;
+        let mut at = minute.saturating_sub(179).max(w.next.saturating_sub(256));
+        let end = minute.min(w.next);
+        let mut heard = 0;
+        while at < end {
+            let n = (64 - at % 64).min(end - at);
+            let word = w.bits[(at % 256 / 64) as usize] >> (at % 64);
+            heard += (word & (u64::MAX >> (64 - n))).count_ones() as u64;
+            at += n;
         }
-        absent
+        179 - heard
     }
 }
 
