@@ -75,12 +75,12 @@ impl Number {
         Number { v: x - y }
     }
 
-    pub fn times(self, k: u32) -> Number
-        requires { ⌜ natAbs (self .v) * k < 2 ^ 63 ⌝ }
-        ensures { λ r. ⌜ Is (r .v) (self .v *ℤ pos k) (natAbs (self .v) * k) ⌝ }
+    pub fn times(self, b: Number) -> Number
+        requires { ⌜ natAbs (self .v) * natAbs (b .v) < 2 ^ 63 ⌝ }
+        ensures { λ r. ⌜ Is (r .v) (self .v *ℤ b .v) (natAbs (self .v) * natAbs (b .v)) ⌝ }
     {
         let x = self.v;
-        let y = k as i64;
+        let y = b.v;
         Number { v: x * y }
     }
 

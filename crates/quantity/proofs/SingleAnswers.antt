@@ -9,6 +9,7 @@ use Rattle.quantity.specs.declared.SpeedParts.{SpeedParts}
 use Rattle.quantity.specs.declared.Degrees.{Degrees}
 use Rattle.quantity.proofs.BarometerUnit.holds.Reads as barometer-unit
 use Rattle.quantity.proofs.Hectopascals.holds.Reads as hectopascals
+use Rattle.quantity.proofs.Hectopascals.recorded.Reads as recorded
 use Rattle.quantity.proofs.Millimetres.holds.Reads as millimetres
 use Rattle.quantity.proofs.WheelhouseTemperature.holds.Reads as wheelhouse-temperature
 use Rattle.quantity.proofs.BulbTemperature.holds.Reads as bulb-temperature
@@ -26,6 +27,9 @@ single-barometer-unit κs a r r′ s s′ p q = p ∙ sym q
 
 pub single-hectopascals : Single hectopascals.Post
 single-hectopascals κs a r r′ s s′ p q = p ∙ sym q
+
+pub single-recorded : Single recorded.Post
+single-recorded κs a r r′ s s′ p q = p ∙ sym q
 
 pub single-millimetres : Single millimetres.Post
 single-millimetres κs a r r′ s s′ p q = p ∙ sym q

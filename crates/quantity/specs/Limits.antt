@@ -18,6 +18,10 @@ inside l z = within (l .low) (l .high) z
 abbrev pub hectopascals : Limits
 hectopascals = record { low = pos 8500; high = pos 11000 }
 
+-- "1 pressure: 8000 to 11500 tenths hPa" (document 01, "Watch file")
+abbrev pub recordedPressure : Limits
+recordedPressure = record { low = pos 8000; high = pos 11500 }
+
 -- 640.0 to 825.0 mm Hg
 abbrev pub millimetres : Limits
 millimetres = record { low = pos 6400; high = pos 8250 }

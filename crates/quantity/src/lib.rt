@@ -3,7 +3,7 @@
 ghost use mathlib.Core.Path.{_≡_};
 ghost use Prim.Native.Nat.{ℕ, _*_, _%_};
 ghost use lib.Dec.{leb};
-ghost use Rattle.quantity.specs.Limits.{inside, hectopascals, millimetres, pressureLimits, wheelhouse, bulb, metresPerSecond, knots, degrees, lastMinute};
+ghost use Rattle.quantity.specs.Limits.{inside, hectopascals, recordedPressure, millimetres, pressureLimits, wheelhouse, bulb, metresPerSecond, knots, degrees, lastMinute};
 ghost use Rattle.quantity.specs.Convert.{inHectopascals, keptDirection, partsOfKnots, partsOfMetres};
 use number::Kept;
 use number::Number;
@@ -64,6 +64,17 @@ impl Hectopascals {
     {
         n.within(Self::LOW, Self::HIGH)
     }
+
+    pub const RECORDED_LOW: Number = Number { v: 8000 };
+
+    pub const RECORDED_HIGH: Number = Number { v: 11500 };
+
+    // Whether n is a pressure as a watch file records it, in tenths of hPa: worked from a reading, and so wider than one.
+    pub fn recorded(n: Number) -> bool
+        ensures { λ r. ⌜ r ≡ inside recordedPressure (n .v) ⌝ }
+    {
+        n.within(Self::RECORDED_LOW, Self::RECORDED_HIGH)
+    }
 }
 
 impl Millimetres {
@@ -83,7 +94,8 @@ impl Millimetres {
         ensures { λ r. ⌜ r .0 .v ≡ inHectopascals (self .0 .v) ⌝ }
     {
         let n = self.0;
-        Hectopascals(n.number().times(13332).over(10000))
+        let factor = Number { v: 13332 };
+        Hectopascals(n.number().times(factor).over(10000))
     }
 }
 
