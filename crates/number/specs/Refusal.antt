@@ -5,6 +5,14 @@ use mathlib.Core.List.{List, [], _∷_}
 use Prim.Native.Nat.{ℕ, zero, suc}
 use lib.Dec.{T, ltb}
 
+-- A refusal of document 01 that returns more than its number.
+pub record Numbered : Type 0 where
+  pub number : ℕ
+  pub extra : List ℕ
+
+abbrev pub numbered : ℕ → List ℕ → Numbered
+numbered n extra = record { number = n; extra = extra }
+
 -- A test: what it refuses with, and whether its reason holds.
 pub record Test (R : Type 0) : Type 0 where
   pub refusal : R
