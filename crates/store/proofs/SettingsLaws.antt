@@ -37,7 +37,7 @@ within-16 l z k small lo hi i = plain z (omega (arith, within-size (l .low) (l .
 both-halves : (a b : ℕ) → a < 65536 → b < 65536 → ((a + 65536 * b) % 65536 ≡ a) × ((a + 65536 * b) / 65536 ≡ b)
 both-halves a b h k = (omega arith, omega arith)
 
-pressure-size : (u : BarometerUnit) (z : ℤ) → inside (pressureLimits u) z ≡ true → natAbs z < 32768
+pub pressure-size : (u : BarometerUnit) (z : ℤ) → inside (pressureLimits u) z ≡ true → natAbs z < 32768
 pressure-size Hectopascals z i = omega (arith, within-size (pos 8500) (pos 11000) z 11000 (lit≤ tt) (lit≤ tt) i)
 pressure-size Millimetres z i = omega (arith, within-size (pos 6400) (pos 8250) z 8250 (lit≤ tt) (lit≤ tt) i)
 
@@ -75,10 +75,10 @@ third : (a b c d : Bool) → (a && b && c && d) ≡ true → c ≡ true
 third a b c d e = and-true (a && b) c (and-true (a && b && c) d e .0) .1
 
 module _ (g : Settings) (good : checked g ≡ given tt) where
-  others : othersHold (g .height .0 .v) (g .difference .0 .v) (g .coefficient .0 .v) (g .psychrometer .0 .v) ≡ true
+  pub others : othersHold (g .height .0 .v) (g .difference .0 .v) (g .coefficient .0 .v) (g .psychrometer .0 .v) ≡ true
   others = not-false _ (fails _ (λ h. settings-good g .0 good 9 (0, (h, refl))))
 
-  each : (i : ℕ) → i < g .count → pointHolds (g .unit) (pointAt (g .points) i) ≡ true
+  pub each : (i : ℕ) → i < g .count → pointHolds (g .unit) (pointAt (g .points) i) ≡ true
   unfolding certificateHolds
   each i h =
       ap (λ (k : ℕ). pointHolds (g .unit) (pointAt (g .points) k)) (sym (zero-add i))

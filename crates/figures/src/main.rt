@@ -1,0 +1,138 @@
+// Works the figures of document 01 ("Figures on both sides") in the compiled program: those that are proved, in the order of their
+// table, then those that are only run. Pressures in tenths of hPa, and so on, as in the table.
+use humidity::Moisture;
+use libc::STDOUT_FILENO;
+use number::Kept;
+use number::Number;
+use pressure::WorkedPressure;
+use quantity::BarometerUnit;
+use quantity::BulbTemperature;
+use quantity::Degrees;
+use quantity::Hectopascals;
+use quantity::Knots;
+use quantity::MetresPerSecond;
+use quantity::WheelhouseTemperature;
+use settings::Correction;
+use settings::Height;
+use settings::Point;
+use settings::PsychrometerCoefficient;
+use settings::SeaLevelDifference;
+use settings::Settings;
+use settings::TemperatureCoefficient;
+use wind::TrueWind;
+
+fn say(text: &[u8]) {
+    io::write_all(STDOUT_FILENO, text);
+}
+
+fn say_number(n: Number) {
+    say(b" ");
+    if n.is_minus() {
+        say(b"-");
+    }
+    io::print_decimal(STDOUT_FILENO, n.size());
+}
+
+fn say_natural(n: u32) {
+    say_number(Number::whole(n));
+}
+
+fn point(reading: i32, correction: i32) -> Point {
+    Point {
+        reading: Kept { v: reading },
+        correction: Correction(Kept { v: correction }),
+    }
+}
+
+// Certificate 730.0:-0.4, 750.0:-0.8 mm Hg, coefficient 24, H 10.1.
+fn settings(difference: i32) -> Settings {
+    let first = point(7300, -4);
+    let mut points = [first; 16];
+    points[1] = point(7500, -8);
+    Settings {
+        unit: BarometerUnit::Millimetres,
+        height: Height(Kept { v: 101 }),
+        difference: SeaLevelDifference(Kept { v: difference }),
+        coefficient: TemperatureCoefficient(Kept { v: 24 }),
+        psychrometer: PsychrometerCoefficient(Kept { v: 662 }),
+        count: 2,
+        points,
+    }
+}
+
+// Reading 741.9 mm Hg at 12.4 °C.
+fn pressure_at_sea_level(difference: i32) {
+    let mut store = [0u64; store::WORDS];
+    store::open(&mut store, settings(difference));
+    match pressure::sea_level_pressure(
+        &store,
+        Number { v: 7419 },
+        WheelhouseTemperature(Kept { v: 124 }),
+    ) {
+        WorkedPressure::Given(p) => {
+            say(b"pressure");
+            say_number(p.0);
+            say(b"\n");
+        }
+        WorkedPressure::OutsideLimits => say(b"refused 7\n"),
+        WorkedPressure::OutsideCertificate => say(b"refused 12\n"),
+    }
+}
+
+fn true_wind(course: u32, ship: u32, apparent: u32, from_bow: u32) {
+    match wind::true_wind(
+        Degrees(course),
+        Knots(ship),
+        MetresPerSecond(apparent),
+        Degrees(from_bow),
+    ) {
+        TrueWind::Blows(v, d) => {
+            say(b"wind");
+            say_natural(v.0);
+            say_natural(d.0);
+            say(b"\n");
+        }
+        TrueWind::OutsideLimits => say(b"refused 7\n"),
+    }
+}
+
+// At 1000.0 hPa, A 662.
+fn humidity_of(dry: i32, wet: i32) {
+    let pressure = Hectopascals(Number { v: 10000 });
+    let a = PsychrometerCoefficient(Kept { v: 662 });
+    match humidity::humidity(
+        BulbTemperature(Kept { v: dry }),
+        BulbTemperature(Kept { v: wet }),
+        pressure,
+        a,
+    ) {
+        Moisture::Given(h) => {
+            say(b"humidity");
+            say_natural(h.e.0);
+            say_natural(h.saturation.0);
+            say_natural(h.deficit.0);
+            say_natural(h.relative);
+            let dew = h.dew;
+            say_number(dew.0.number());
+            say(b"\n");
+        }
+        Moisture::WetAboveDry => say(b"refused 13\n"),
+        Moisture::TooDry => say(b"refused 15\n"),
+        Moisture::OutsideLimits => say(b"refused 7\n"),
+    }
+}
+
+fn main() {
+    pressure_at_sea_level(0);
+    pressure_at_sea_level(-268);
+    true_wind(260, 125, 25, 40);
+    true_wind(30, 100, 0, 0);
+    true_wind(90, 100, 50, 0);
+    true_wind(350, 0, 80, 20);
+    true_wind(0, 0, 100, 0);
+    true_wind(0, 0, 0, 0);
+    humidity_of(200, 150);
+    humidity_of(0, 0);
+    humidity_of(-400, -400);
+    humidity_of(300, 50);
+}

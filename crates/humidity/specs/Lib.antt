@@ -1,0 +1,2 @@
+pub mod Humidity
+pub mod Parts

@@ -1,0 +1,6 @@
+pub mod LineLaws
+pub mod PlaceLaws
+pub mod FitLaws
+pub mod ListLaws
+pub mod SingleAnswers
+pub mod Worked

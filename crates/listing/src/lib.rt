@@ -1,0 +1,188 @@
+// The listing of a watch file: its text in a lent buffer.
+ghost use mathlib.Core.Path.{_≡_};
+ghost use mathlib.Core.List.{[], _∷_, _++_};
+ghost use Prim.Native.Nat.{ℕ, _≤_};
+ghost use lib.IntN.{ℤ};
+ghost use lib.ListN.{length, take};
+ghost use Rattle.text.specs.Text.{Put};
+ghost use Rattle.listing.specs.Listing.{field, fieldOf, letter, bodyText, recordLine, recordLines, headLine, refusedLine, listingOf, Lists};
+ghost use Rattle.watchfile.specs.Format.{DewRule, reading};
+use number::Kept;
+use reader::Verdict;
+use watchfile::Body;
+use watchfile::RECORDS;
+use watchfile::Record;
+
+// What listing came to: the bytes of the text, or that fewer than TEXT bytes were lent.
+pub enum Listed {
+    Text(usize),
+    TooShort,
+}
+
+// The longest line: a letter, a minute of 10 digits, numbers of 5, 5, 5 and 3, one of 10 with its minus, spaces, and the end.
+const LINE: usize = 1 + 11 + 3 * 6 + 4 + 12 + 1;
+
+// The bytes of the longest listing: `WT 1 48` with its end, and 48 lines.
+pub const TEXT: usize = 8 + RECORDS * LINE;
+
+// Puts a number behind a space. As all of these it gives the place behind what it put.
+fn put_field(text: &mut [u8], at: usize, n: u64) -> usize
+    ensures { λ r. ⌜ Put (now (text .entry)) (now (text .exit)) at (field n) r ⌝ }
+{
+    let behind = text::put_byte(text, at, b' ');
+    text::put_natural(text, behind, n)
+}
+
+// Puts a number with a sign behind a space.
+fn put_signed(text: &mut [u8], at: usize, n: Kept) -> usize
+    ensures { λ r. ⌜ Put (now (text .entry)) (now (text .exit)) at (fieldOf (n .v)) r ⌝ }
+{
+    let behind = text::put_byte(text, at, b' ');
+    text::put_number(text, behind, n.number())
+}
+
+// Puts the fields of a tendency.
+fn put_tendency(text: &mut [u8], at: usize, change: Kept, absent: u8) -> usize
+    ensures { λ r. ⌜ Put (now (text .entry)) (now (text .exit)) at (fieldOf (change .v) ++ field absent) r ⌝ }
+{
+    let behind = put_signed(text, at, change);
+    put_field(text, behind, absent as u64)
+}
+
+// Puts two fields.
+fn put_pair(text: &mut [u8], at: usize, first: u16, second: u16) -> usize
+    ensures { λ r. ⌜ Put (now (text .entry)) (now (text .exit)) at (field first ++ field second) r ⌝ }
+{
+    let behind = put_field(text, at, first as u64);
+    put_field(text, behind, second as u64)
+}
+
+// Puts the fields of a humidity.
+fn put_humidity(
+    text: &mut [u8],
+    at: usize,
+    e: u16,
+    saturation: u16,
+    deficit: u16,
+    relative: u8,
+    dew: Kept,
+) -> usize
+    ensures { λ r. ⌜ Put (now (text .entry)) (now (text .exit)) at (field e ++ (field saturation ++ (field deficit ++ (field relative ++ fieldOf (dew .v))))) r ⌝ }
+{
+    let second = put_field(text, at, e as u64);
+    let third = put_field(text, second, saturation as u64);
+    let fourth = put_field(text, third, deficit as u64);
+    let fifth = put_field(text, fourth, relative as u64);
+    put_signed(text, fifth, dew)
+}
+
+// The letter of a body's kind.
+fn letter(body: Body) -> u8
+    ensures { λ r. ⌜ r ∷ [] ≡ letter body ⌝ }
+{
+    match body {
+        Body::Pressure(_) => b'P',
+        Body::Tendency {
+            change: _,
+            absent: _,
+        } => b'T',
+        Body::Wind {
+            speed: _,
+            direction: _,
+        } => b'W',
+        Body::Humidity {
+            e: _,
+            saturation: _,
+            deficit: _,
+            relative: _,
+            dew: _,
+        } => b'H',
+    }
+}
+
+// Puts the fields of a body.
+fn put_body(text: &mut [u8], at: usize, body: Body) -> usize
+    ensures { λ r. ⌜ Put (now (text .entry)) (now (text .exit)) at (bodyText body) r ⌝ }
+{
+    match body {
+        Body::Pressure(p) => put_field(text, at, p as u64),
+        Body::Tendency { change, absent } => put_tendency(text, at, change, absent),
+        Body::Wind { speed, direction } => put_pair(text, at, speed, direction),
+        Body::Humidity {
+            e,
+            saturation,
+            deficit,
+            relative,
+            dew,
+        } => put_humidity(text, at, e, saturation, deficit, relative, dew),
+    }
+}
+
+// Puts the line of a record.
+fn put_record(text: &mut [u8], at: usize, r: Record) -> usize
+    ensures { λ place. ⌜ Put (now (text .entry)) (now (text .exit)) at (recordLine r) place ⌝ }
+{
+    let body = r.body;
+    let minute = text::put_byte(text, at, letter(body));
+    let fields = put_field(text, minute, r.minute as u64);
+    let end = put_body(text, fields, body);
+    text::put_byte(text, end, b'\n')
+}
+
+// Puts the lines of the first `count` records.
+fn put_records(text: &mut [u8], at: usize, count: usize, records: [Record; RECORDS]) -> usize
+    requires { ⌜ (count ≤ 48) × (at ≤ length (now text)) ⌝ }
+    ensures { λ r. ⌜ Put (now (text .entry)) (now (text .exit)) at (recordLines (take count records)) r ⌝ }
+{
+    let mut place = at;
+    let mut i = 0;
+    while i < count {
+        place = put_record(text, place, records[i]);
+        i += 1;
+    }
+    place
+}
+
+// Puts the first line of a good file.
+fn put_head(text: &mut [u8], count: usize) -> usize
+    ensures { λ r. ⌜ Put (now (text .entry)) (now (text .exit)) 0 (headLine count) r ⌝ }
+{
+    let label = text::put_bytes(text, 0, b"WT 1");
+    let number = put_field(text, label, count as u64);
+    text::put_byte(text, number, b'\n')
+}
+
+// Puts the line of a broken file.
+fn put_refusal(text: &mut [u8], place: usize) -> usize
+    ensures { λ r. ⌜ Put (now (text .entry)) (now (text .exit)) 0 (refusedLine place) r ⌝ }
+{
+    let words = text::put_bytes(text, 0, b"refused 18 at");
+    let number = put_field(text, words, place as u64);
+    text::put_byte(text, number, b'\n')
+}
+
+// Puts the listing of a good file.
+fn put_listing(text: &mut [u8], count: usize, records: [Record; RECORDS]) -> usize
+    requires { ⌜ count ≤ 48 ⌝ }
+    ensures { λ r. ⌜ Put (now (text .entry)) (now (text .exit)) 0 (headLine count ++ recordLines (take count records)) r ⌝ }
+{
+    let behind = put_head(text, count);
+    put_records(text, behind, count, records)
+}
+
+// Puts the listing of a watch file at the start of the lent bytes: a line for the file and one for each record, or one that
+// says where it is broken. How long it is.
+pub fn list(file: &[u8], text: &mut [u8]) -> Listed
+    ensures { λ r. ⌜ ((rule : ℕ → ℤ) → DewRule rule → Lists (listingOf (reading rule (now (file .entry)))) (now (text .entry)) (now (text .exit)) r) ⌝ }
+{
+    if text.len() < TEXT {
+        return Listed::TooShort;
+    }
+    let read = reader::read(file);
+    let verdict = read.verdict;
+    let records = read.records;
+    match verdict {
+        Verdict::Good(count) => Listed::Text(put_listing(text, count, records)),
+        Verdict::Broken(place) => Listed::Text(put_refusal(text, place)),
+    }
+}

@@ -1,0 +1,10 @@
+pub mod OrderLaws
+pub mod LineLaws
+pub mod PairLaws
+pub mod SizeLaws
+pub mod AnswerLaws
+pub mod RisingLaws
+pub mod ScaleLaws
+pub mod NearLaws
+pub mod PressureTheorems
+pub mod SingleAnswers

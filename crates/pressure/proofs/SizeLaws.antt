@@ -1,0 +1,85 @@
+-- How large the corrections can be: no larger than the coefficients, heights and points that they are worked from allow. For
+-- any block, whose figures are 16 bits each, that is little enough for every sum to fit. Assumes nothing.
+use mathlib.Core.Path.{_≡_, refl}
+use mathlib.Core.Bool.{Bool, true, false}
+use mathlib.Core.List.{List}
+use Prim.Native.Nat.{ℕ, zero, suc, _+_, _-_, _*_, _/_, _%_, _≤_, zero-le}
+use native.Mathlib.Omega.{arith}
+use native.Mathlib.Nat.{le-trans, mul-le-mul-left, mul-le-mul-right}
+use lib.Dec.{ltb, lit≤, lit<}
+use lib.IntN.{ℤ, pos, natAbs, _+ℤ_, _*ℤ_}
+use lib.ListN.{getD}
+use Rattle.number.proofs.Sizes.{size-sum, size-mul}
+use Rattle.quantity.specs.declared.BarometerUnit.{BarometerUnit}
+use Rattle.quantity.specs.declared.BarometerUnit.the-variants.{Hectopascals, Millimetres}
+use Rattle.settings.specs.declared.Point.{Point}
+use Rattle.store.specs.Layout.{POINTS}
+use Rattle.store.specs.Cells.{unbiased}
+use Rattle.store.specs.Block.{pointOf}
+use Rattle.pressure.specs.Pressure.{Barometer, barometerOf, around, scaleFrom, scale, temperature, height}
+use Rattle.pressure.specs.Stored.{Stored}
+use Rattle.pressure.proofs.LineLaws.{rounded-at-most, between-size}
+
+pub product : {a b m n : ℕ} → a ≤ m → b ≤ n → a * b ≤ m * n
+product {a} {b} {m} {n} h k = le-trans (mul-le-mul-left a k) (mul-le-mul-right n h)
+
+pub temperature-size : (c t : ℤ) (m n k : ℕ) → natAbs c ≤ m → natAbs t ≤ n → m * n ≤ k * 1000 → natAbs (temperature c t) ≤ k
+unfolding temperature
+temperature-size c t m n k hc ht h =
+    rounded-at-most (c *ℤ t) 1000 k (lit< tt) (omega (arith, size-mul c t, product hc ht))
+
+-- m + n tenths of a metre, in tenths of the unit
+abbrev pub Height : BarometerUnit → ℕ → ℕ → Type 0
+Height Hectopascals metres k = metres * 133 ≤ k * 1000
+Height Millimetres metres k = metres ≤ k * 10
+
+pub height-size : (u : BarometerUnit) (h d : ℤ) (m n k : ℕ) → natAbs h ≤ m → natAbs d ≤ n → Height u (m + n) k → natAbs (height u h d) ≤ k
+unfolding height
+height-size Hectopascals h d m n k hm hn l =
+    rounded-at-most ((h +ℤ d) *ℤ pos 133) 1000 k (lit< tt) (omega (arith, size-mul (h +ℤ d) (pos 133), size-sum h d))
+height-size Millimetres h d m n k hm hn l = rounded-at-most (h +ℤ d) 10 k (lit< tt) (omega (arith, size-sum h d))
+
+-- the scale correction: the points up to the last one used bound it
+scale-from-size : (point : ℕ → Point) (r : ℤ) (k i n : ℕ) → ((j : ℕ) → j ≤ i + n → natAbs (point j .correction .0 .v) ≤ k)
+    → natAbs (scaleFrom point r i n) ≤ k
+unfolding scaleFrom
+scale-from-size point r k i zero f = zero-le
+scale-from-size point r k i (suc n) f =
+    go (around (point i) (point (i + 1)) r) refl (scale-from-size point r k (i + 1) n (λ j h. f j (omega arith)))
+  where
+    go : (t : Bool) → around (point i) (point (i + 1)) r ≡ t → natAbs (scaleFrom point r (i + 1) n) ≤ k → natAbs (scaleFrom point r i (suc n)) ≤ k
+    go true e rest = rw e (between-size (point i) (point (i + 1)) r k e (f i (omega arith)) (f (i + 1) (omega arith)))
+    go false e rest = rw e rest
+
+pub scale-size : (b : Barometer) (r : ℤ) (k : ℕ) → ((j : ℕ) → j ≤ b .points - 1 → natAbs (b .point j .correction .0 .v) ≤ k) → natAbs (scale b r) ≤ k
+unfolding scale
+scale-size b r k f = scale-from-size (b .point) r k 0 (b .points - 1) (λ j h. f j (omega arith))
+
+-- ---- what a block can hold
+
+pub setting-size : (n : ℕ) → natAbs (unbiased n) ≤ 32768
+setting-size n = go (ltb (n % 65536) 32768) refl
+  where
+    go : (t : Bool) → ltb (n % 65536) 32768 ≡ t → natAbs (unbiased n) ≤ 32768
+    go true e = rw e (omega arith)
+    go false e = rw e (omega arith)
+
+pub stored : (s : List ℕ) (i : ℕ) → Stored (pointOf s i)
+stored s i = go (ltb i 16) refl
+  where
+    go : (t : Bool) → ltb i 16 ≡ t → Stored (pointOf s i)
+    go true e = rw e (let w = getD s (POINTS + i) 0 in record { reading = setting-size w; correction = setting-size (w / 65536) })
+    go false e = rw e (record { reading = zero-le; correction = zero-le })
+
+pub scale-stored : (s : List ℕ) (r : ℤ) → natAbs (scale (barometerOf s) r) ≤ 32768
+scale-stored s r = scale-size (barometerOf s) r 32768 (λ j h. stored s j .correction)
+
+pub temperature-stored : (n : ℕ) (t : ℤ) → natAbs t ≤ 600 → natAbs (temperature (unbiased n) t) ≤ 19661
+temperature-stored n t h = temperature-size (unbiased n) t 32768 600 19661 (setting-size n) h (lit≤ tt)
+
+pub height-stored : (u : BarometerUnit) (m n : ℕ) → natAbs (height u (unbiased m) (unbiased n)) ≤ 8717
+height-stored u m n = height-size u (unbiased m) (unbiased n) 32768 32768 8717 (setting-size m) (setting-size n) (fits u)
+  where
+    fits : (u : BarometerUnit) → Height u 65536 8717
+    fits Hectopascals = lit≤ tt
+    fits Millimetres = lit≤ tt

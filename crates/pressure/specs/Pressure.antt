@@ -1,0 +1,140 @@
+-- Sea level pressure and station pressure (document 01, "Pressure and tendency" and "Humidity"; 004, section 6).
+-- Readings, corrections and temperatures are in tenths.
+use mathlib.Core.Bool.{Bool, not, _&&_, _||_, cond}
+use mathlib.Core.List.{List, [], _∷_}
+use Prim.Native.Nat.{ℕ, zero, suc, _+_, _-_}
+use lib.IntN.{ℤ, pos, natAbs, _+ℤ_, _-ℤ_, _*ℤ_}
+use lib.Signed.{leZ}
+use Rattle.number.specs.Round.{rounded}
+use Rattle.number.specs.Refusal.{Test, Answer, refused, given, answer}
+use Rattle.quantity.specs.Limits.{inside, pressureLimits, wheelhouse}
+use Rattle.quantity.specs.Convert.{inHectopascals}
+use Rattle.quantity.specs.declared.BarometerUnit.{BarometerUnit}
+use Rattle.quantity.specs.declared.BarometerUnit.the-variants.{Hectopascals, Millimetres}
+use Rattle.settings.specs.Settings.{every, pointAt, rises}
+use Rattle.settings.specs.declared.Settings.{Settings}
+use Rattle.settings.specs.declared.Point.{Point}
+use Rattle.store.specs.Block.{unitOf, settingOf, pointsOf, pointOf}
+use Rattle.pressure.specs.declared.ScaleCorrection.{ScaleCorrection}
+use Rattle.pressure.specs.declared.ScaleCorrection.the-variants.{Tenths, NoneThere}
+use Rattle.pressure.specs.declared.WorkedPressure.{WorkedPressure}
+use Rattle.pressure.specs.declared.WorkedPressure.the-variants.{Given, OutsideLimits, OutsideCertificate}
+
+-- What the corrections of a barometer rest on: five settings, and the certificate's points by their places from 0.
+pub record Barometer : Type 0 where
+  pub unit : BarometerUnit
+  pub height : ℤ
+  pub difference : ℤ
+  pub coefficient : ℤ
+  pub points : ℕ
+  pub point : ℕ → Point
+
+-- As settings give it, and as a block holds it.
+abbrev pub barometerIn : Settings → Barometer
+barometerIn s =
+    record {
+      unit = s .unit;
+      height = s .height .0 .v;
+      difference = s .difference .0 .v;
+      coefficient = s .coefficient .0 .v;
+      points = s .count;
+      point = pointAt (s .points);
+    }
+
+abbrev pub barometerOf : List ℕ → Barometer
+barometerOf s =
+    record {
+      unit = unitOf s;
+      height = settingOf s 1;
+      difference = settingOf s 2;
+      coefficient = settingOf s 3;
+      points = pointsOf s;
+      point = pointOf s;
+    }
+
+-- ---- the three corrections
+
+-- "the two certificate points round the reading": neighbours, the first with the lower reading
+abbrev pub around : Point → Point → ℤ → Bool
+around p q reading = rises p q && leZ (p .reading .v) reading && leZ reading (q .reading .v)
+
+-- "the straight line between the two .. points", times the distance of their readings
+abbrev pub line : Point → Point → ℤ → ℤ
+line p q reading =
+    p .correction .0 .v *ℤ (q .reading .v -ℤ reading) +ℤ q .correction .0 .v *ℤ (reading -ℤ p .reading .v)
+
+-- "rounded to 0.1", as a whole
+abbrev pub between : Point → Point → ℤ → ℤ
+between p q reading = rounded (line p q reading) (natAbs (q .reading .v -ℤ p .reading .v))
+
+-- Of n pairs of neighbours from place i on, the first that stands round the reading gives the correction. (In a certificate
+-- that holds its rules every pair that stands round it gives the same: `any-pair`.)
+unfoldable pub scaleFrom : (ℕ → Point) → ℤ → ℕ → ℕ → ℤ
+scaleFrom point reading i zero = pos 0
+scaleFrom point reading i (suc n) =
+    cond (around (point i) (point (i + 1)) reading) (between (point i) (point (i + 1)) reading) (scaleFrom point reading (i + 1) n)
+
+-- "Scale correction: the straight line between the two certificate points round the reading, rounded to 0.1"
+unfoldable pub scale : Barometer → ℤ → ℤ
+scale b reading = scaleFrom (b .point) reading 0 (b .points - 1)
+
+-- 12: "barometer reading outside the certificate": no neighbours stand round it
+unfoldable pub outside : Barometer → ℤ → Bool
+outside b reading = every (λ i. not (around (b .point i) (b .point (i + 1)) reading)) 0 (b .points - 1)
+
+-- "Temperature correction: coefficient times wheelhouse temperature, rounded to 0.1": thousandths times tenths
+unfoldable pub temperature : ℤ → ℤ → ℤ
+temperature coefficient t = rounded (coefficient *ℤ t) 1000
+
+-- "Height correction: (H + difference) times 0.133 hPa or 0.1 mm Hg, rounded to 0.1 (004, 6.1.3)"
+unfoldable pub height : BarometerUnit → ℤ → ℤ → ℤ
+height Hectopascals h difference = rounded ((h +ℤ difference) *ℤ pos 133) 1000
+height Millimetres h difference = rounded (h +ℤ difference) 10
+
+-- ---- the two pressures, in tenths of hPa
+
+-- "times 1.3332 if in mm Hg, rounded to 0.1 hPa"
+abbrev pub toHectopascals : BarometerUnit → ℤ → ℤ
+toHectopascals Hectopascals tenths = tenths
+toHectopascals Millimetres tenths = inHectopascals tenths
+
+-- "Sea level pressure: reading plus the three, times 1.3332 if in mm Hg, rounded to 0.1 hPa."
+unfoldable pub seaLevel : Barometer → ℤ → ℤ → ℤ
+seaLevel b reading t =
+    toHectopascals (b .unit)
+    (reading +ℤ scale b reading +ℤ temperature (b .coefficient) t +ℤ height (b .unit) (b .height) (b .difference))
+
+-- "Station pressure: reading plus scale correction, times 1.3332 and rounded to 0.1 if in mm Hg."
+unfoldable pub stationPressure : Barometer → ℤ → ℤ
+stationPressure b reading = toHectopascals (b .unit) (reading +ℤ scale b reading)
+
+-- ---- the answers
+
+-- 7: a reading or a temperature outside limits; 12: a reading outside the certificate
+abbrev pub outsideTest : Barometer → ℤ → Test ℕ
+outsideTest b reading = record { refusal = 12; holds = outside b reading }
+
+unfoldable pub scaled : Barometer → ℤ → Answer ℕ ℤ
+scaled b reading = answer (outsideTest b reading ∷ []) (scale b reading)
+
+unfoldable pub seaLevelAnswer : Barometer → ℤ → ℤ → Answer ℕ ℤ
+seaLevelAnswer b reading t =
+    answer
+    (record { refusal = 7; holds = not (inside (pressureLimits (b .unit)) reading) || not (inside wheelhouse t) } ∷ outsideTest b reading ∷ [])
+    (seaLevel b reading t)
+
+unfoldable pub stationAnswer : Barometer → ℤ → Answer ℕ ℤ
+stationAnswer b reading =
+    answer
+    (record { refusal = 7; holds = not (inside (pressureLimits (b .unit)) reading) } ∷ outsideTest b reading ∷ [])
+    (stationPressure b reading)
+
+-- Document 01's number and value of each case.
+abbrev pub scaledAs : ScaleCorrection → Answer ℕ ℤ
+scaledAs (Tenths n) = given (n .v)
+scaledAs NoneThere = refused 12
+
+abbrev pub pressureAs : WorkedPressure → Answer ℕ ℤ
+pressureAs (Given p) = given (p .0 .v)
+pressureAs OutsideLimits = refused 7
+pressureAs OutsideCertificate = refused 12

@@ -1,0 +1,205 @@
+// The corrections of a barometer's reading, the pressure at sea level and the pressure at the station.
+// A reading is a number of tenths of the unit that the store is set to.
+ghost use mathlib.Core.Path.{_≡_};
+ghost use mathlib.Core.Bool.{true};
+ghost use Prim.Native.Nat.{ℕ, _≤_, _<_, _^_};
+ghost use lib.IntN.{natAbs, _+ℤ_, _*ℤ_};
+ghost use Rattle.number.specs.Whole.{Is};
+ghost use Rattle.store.specs.Block.{unitOf, settingOf};
+ghost use Rattle.pressure.specs.Pressure.{barometerOf, around, line, between, temperature, height, toHectopascals, scaled, scaledAs, seaLevelAnswer, stationAnswer, pressureAs};
+ghost use Rattle.pressure.specs.Stored.{Stored};
+use number::Number;
+use quantity::BarometerUnit;
+use quantity::Hectopascals;
+use quantity::Millimetres;
+use quantity::WheelhouseTemperature;
+use settings::Correction;
+use settings::Height;
+use settings::Point;
+use settings::SeaLevelDifference;
+use settings::TemperatureCoefficient;
+use store::Store;
+
+// The scale correction of a reading.
+pub enum ScaleCorrection {
+    Tenths(Number),
+    // 12: the reading lies outside the certificate
+    NoneThere,
+}
+
+// A pressure that was worked from a reading.
+pub enum WorkedPressure {
+    Given(Hectopascals),
+    // 7: the reading or the temperature is outside its limits
+    OutsideLimits,
+    // 12
+    OutsideCertificate,
+}
+
+// Whether two neighbouring points of a certificate stand round a reading.
+fn around(p: Point, q: Point, reading: Number) -> bool
+    ensures { λ r. ⌜ r ≡ around p q (reading .v) ⌝ }
+{
+    let low = p.reading;
+    let high = q.reading;
+    let from = low.number();
+    let to = high.number();
+    if to.at_most(from) {
+        return false;
+    }
+    if !from.at_most(reading) {
+        return false;
+    }
+    reading.at_most(to)
+}
+
+// A correction times a distance of readings.
+fn weighed(by: Correction, distance: Number) -> Number
+    requires { ⌜ (natAbs (by .0 .v) ≤ 32768) × (natAbs (distance .v) ≤ 65536) ⌝ }
+    ensures { λ r. ⌜ Is (r .v) (by .0 .v *ℤ distance .v) (2 ^ 31) ⌝ }
+{
+    let n = by.0;
+    n.number().times(distance)
+}
+
+// The straight line between two points, at a reading between theirs, times the distance of their readings.
+fn line(p: Point, q: Point, reading: Number) -> Number
+    requires { ⌜ Stored p × Stored q × (natAbs (reading .v) ≤ 32768) ⌝ }
+    ensures { λ r. ⌜ Is (r .v) (line p q (reading .v)) (2 ^ 32) ⌝ }
+{
+    let low = p.reading;
+    let high = q.reading;
+    let to_high = high.number().minus(reading);
+    let from_low = reading.minus(low.number());
+    let a = p.correction;
+    let b = q.correction;
+    weighed(a, to_high).plus(weighed(b, from_low))
+}
+
+// The correction that this line gives, rounded as a whole.
+fn between(p: Point, q: Point, reading: Number) -> Number
+    requires { ⌜ Stored p × Stored q × (around p q (reading .v) ≡ true) ⌝ }
+    ensures { λ r. ⌜ r .v ≡ between p q (reading .v) ⌝ }
+{
+    let low = p.reading;
+    let high = q.reading;
+    let distance = high.number().minus(low.number()).size();
+    line(p, q, reading).over(distance)
+}
+
+// The scale correction: the first two neighbouring points that stand round the reading give it. Or refusal 12: there are none.
+pub fn scale_correction(store: &Store, reading: Number) -> ScaleCorrection
+    ensures { λ r. ⌜ scaledAs r ≡ scaled (barometerOf (now (store .entry))) (reading .v) ⌝ }
+{
+    let n = store::points(store);
+    let mut i: u32 = 0;
+    while i + 1 < n {
+        let p = store::point(store, i);
+        let q = store::point(store, i + 1);
+        if around(p, q, reading) {
+            return ScaleCorrection::Tenths(between(p, q, reading));
+        }
+        i += 1;
+    }
+    ScaleCorrection::NoneThere
+}
+
+// The temperature correction, in tenths of the barometer's unit.
+pub fn temperature_correction(k: TemperatureCoefficient, t: WheelhouseTemperature) -> Number
+    ensures { λ r. ⌜ r .v ≡ temperature (k .0 .v) (t .0 .v) ⌝ }
+{
+    let coefficient = k.0;
+    let degrees = t.0;
+    coefficient.number().times(degrees.number()).over(1000)
+}
+
+// The height correction, in tenths of the barometer's unit.
+pub fn height_correction(unit: BarometerUnit, h: Height, difference: SeaLevelDifference) -> Number
+    ensures { λ r. ⌜ r .v ≡ height unit (h .0 .v) (difference .0 .v) ⌝ }
+{
+    let ship = h.0;
+    let sea = difference.0;
+    let above_sea = ship.number();
+    let above_ocean = sea.number();
+    let whole = above_sea.plus(above_ocean);
+    match unit {
+        BarometerUnit::Hectopascals => whole.times(Number { v: 133 }).over(1000),
+        BarometerUnit::Millimetres => whole.over(10),
+    }
+}
+
+// A pressure in hPa, from tenths of a barometer's unit.
+fn in_hectopascals(unit: BarometerUnit, tenths: Number) -> Hectopascals
+    requires { ⌜ natAbs (tenths .v) < 2 ^ 31 ⌝ }
+    ensures { λ r. ⌜ r .0 .v ≡ toHectopascals unit (tenths .v) ⌝ }
+{
+    match unit {
+        BarometerUnit::Hectopascals => Hectopascals(tenths),
+        BarometerUnit::Millimetres => Millimetres(tenths.keep()).hectopascals(),
+    }
+}
+
+// A reading plus its three corrections, of which the scale correction is worked already.
+fn corrected(
+    store: &Store,
+    reading: Number,
+    scale: Number,
+    wheelhouse: WheelhouseTemperature,
+) -> Number
+    requires { ⌜ (natAbs (reading .v) ≤ 32768) × (natAbs (scale .v) ≤ 32768) × (natAbs (wheelhouse .0 .v) ≤ 600) ⌝ }
+    ensures { λ r. ⌜ Is (r .v)
+        (reading .v +ℤ scale .v
+        +ℤ temperature (settingOf (now (store .entry)) 3) (wheelhouse .0 .v)
+        +ℤ height (unitOf (now (store .entry))) (settingOf (now (store .entry)) 1) (settingOf (now (store .entry)) 2))
+        (2 ^ 30) ⌝ }
+{
+    let warm = temperature_correction(store::coefficient(store), wheelhouse);
+    let high = height_correction(
+        store::unit(store),
+        store::height(store),
+        store::difference(store),
+    );
+    reading.plus(scale).plus(warm).plus(high)
+}
+
+// The pressure at sea level: the reading plus its three corrections, in hPa. Or the first of refusals 7 and 12 that holds.
+pub fn sea_level_pressure(
+    store: &Store,
+    reading: Number,
+    wheelhouse: WheelhouseTemperature,
+) -> WorkedPressure
+    ensures { λ r. ⌜ pressureAs r ≡ seaLevelAnswer (barometerOf (now (store .entry))) (reading .v) (wheelhouse .0 .v) ⌝ }
+{
+    let unit = store::unit(store);
+    let degrees = wheelhouse.0;
+    if !unit.holds(reading) {
+        return WorkedPressure::OutsideLimits;
+    }
+    if !WheelhouseTemperature::holds(degrees.number()) {
+        return WorkedPressure::OutsideLimits;
+    }
+    match scale_correction(store, reading) {
+        ScaleCorrection::NoneThere => WorkedPressure::OutsideCertificate,
+        ScaleCorrection::Tenths(scale) => {
+            let all = corrected(store, reading, scale, wheelhouse);
+            WorkedPressure::Given(in_hectopascals(unit, all))
+        }
+    }
+}
+
+// The pressure at the station, for humidity: the reading plus its scale correction, in hPa. Or refusal 7 or 12 likewise.
+pub fn station_pressure(store: &Store, reading: Number) -> WorkedPressure
+    ensures { λ r. ⌜ pressureAs r ≡ stationAnswer (barometerOf (now (store .entry))) (reading .v) ⌝ }
+{
+    let unit = store::unit(store);
+    if !unit.holds(reading) {
+        return WorkedPressure::OutsideLimits;
+    }
+    match scale_correction(store, reading) {
+        ScaleCorrection::NoneThere => WorkedPressure::OutsideCertificate,
+        ScaleCorrection::Tenths(scale) => {
+            let sum = reading.plus(scale);
+            WorkedPressure::Given(in_hectopascals(unit, sum))
+        }
+    }
+}

@@ -1,0 +1,6 @@
+pub mod ContentsLaws
+pub mod SizeLaws
+pub mod BodiesLaws
+pub mod ReadLaws
+pub mod SingleAnswers
+pub mod RefusalsInOrder

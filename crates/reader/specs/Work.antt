@@ -1,0 +1,56 @@
+-- What the reader's own functions find: the answer of a part of the file.
+use mathlib.Core.Path.{_≡_}
+use mathlib.Core.List.{List}
+use Prim.Native.Nat.{ℕ}
+use lib.IntN.{ℤ}
+use lib.ListN.{getD, length, drop}
+use Rattle.number.specs.Refusal.{Answer, refused, given, answer}
+use Rattle.watchfile.specs.Bytes.{le32}
+use Rattle.watchfile.specs.Fields.{Field, fieldTests}
+use Rattle.watchfile.specs.Format.{humidityFields, bodyOf, rowFields, rowsFields, bodiesFields, recordsFrom, startOf}
+use Rattle.watchfile.specs.declared.Body.{Body}
+use Rattle.watchfile.specs.declared.Record.{Record}
+use Rattle.reader.specs.declared.BodyRead.{BodyRead}
+use Rattle.reader.specs.declared.BodyRead.the-variants as bodies
+use Rattle.reader.specs.declared.Row.{Row}
+use Rattle.reader.specs.declared.RowRead.{RowRead}
+use Rattle.reader.specs.declared.RowRead.the-variants as rows
+
+-- What the fields of a part come to: its value, or the place of the first that is wrong, counted from the part's first byte.
+abbrev pub found : {A : Type 0} → List ℕ → List Field → A → Answer ℕ A
+found s fs a = answer (fieldTests (length s) fs) a
+
+-- ---- a row of the contents, at the start of s
+
+abbrev pub rowOf : List ℕ → Row
+rowOf s = record { kind = getD s 0 0; minute = le32 s 4 }
+
+abbrev pub rowAs : RowRead → Answer ℕ Row
+rowAs (rows.Good r) = given r
+rowAs (rows.Broken place) = refused place
+
+abbrev pub RowFound : ℕ → ℕ → List ℕ → RowRead → Type 0
+RowFound next before s r = rowAs r ≡ found s (rowFields s next before) (rowOf s)
+
+-- ---- a body, at the start of s
+
+abbrev pub bodyAs : BodyRead → Answer ℕ Body
+bodyAs (bodies.Good b) = given b
+bodyAs (bodies.Broken place) = refused place
+
+abbrev pub BodyFound : (List ℕ → List Field) → ℕ → List ℕ → BodyRead → Type 0
+BodyFound fields kind s r = bodyAs r ≡ found s (fields s) (bodyOf kind s)
+
+-- The fields of a humidity behind e and saturation.
+abbrev pub derivedFields : (ℕ → ℤ) → List ℕ → List Field
+derivedFields rule s = drop 2 (humidityFields rule s)
+
+-- ---- the file s of so many records
+
+-- Its contents: that many, or the place where they are broken.
+abbrev pub contentsOf : List ℕ → ℕ → Answer ℕ ℕ
+contentsOf s count = found s (rowsFields s count 4 (startOf count) 0) count
+
+-- Its bodies: the records, or the place where they are broken.
+abbrev pub bodiesOf : (ℕ → ℤ) → List ℕ → ℕ → Answer ℕ (List Record)
+bodiesOf rule s count = found s (bodiesFields rule s count 4 (startOf count)) (recordsFrom s count 4 (startOf count))

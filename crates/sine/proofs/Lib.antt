@@ -1,0 +1,4 @@
+pub mod EveryNumber
+pub mod TableLaws
+pub mod SineLaws
+pub mod SingleAnswers

@@ -1,0 +1,2 @@
+pub mod Sines
+pub mod Sine

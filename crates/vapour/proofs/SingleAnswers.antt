@@ -1,0 +1,56 @@
+-- Each public contract of this crate allows a single answer: a tenth has one entry, and a pressure one dew point. Assumes nothing.
+use mathlib.Core.Path.{_≡_, refl, ap}
+use mathlib.Core.Bool.{Bool, true, false}
+use Prim.Native.Nat.{ℕ}
+use native.Mathlib.Omega.{arith}
+use lib.IntN.{ℤ}
+use Rattle.number.specs.Single.{Single}
+use Rattle.number.specs.declared.Kept.{Kept}
+use Rattle.number.proofs.SingleAnswers.{kept-by}
+use Rattle.vapour.specs.Vapour.{AreSaturations, IsDew, water}
+use Rattle.vapour.specs.declared.VapourPressure.{VapourPressure}
+use Rattle.vapour.specs.declared.DewTemperature.{DewTemperature}
+use Rattle.vapour.specs.declared.Saturations.{Saturations}
+use Rattle.vapour.specs.declared.Saturations.the-variants.{Entries, OutsideTable}
+use Rattle.vapour.specs.declared.Dew.{Dew}
+use Rattle.vapour.specs.declared.Dew.the-variants.{Point, OutsideRange}
+use Rattle.vapour.proofs.SaturationLaws.{near-one}
+use Rattle.vapour.proofs.DewLaws.{dew-one}
+use Rattle.vapour.proofs.saturation.Reads as saturation
+use Rattle.vapour.proofs.dew_point.Reads as dew-point
+
+pub pressure-by : {x y : VapourPressure} → x .0 ≡ y .0 → x ≡ y
+pressure-by e = ap make e
+  where
+    make : ℕ → VapourPressure
+    make n = record { 0 = n }
+
+pub dew-by : {x y : DewTemperature} → x .0 .v ≡ y .0 .v → x ≡ y
+dew-by e = ap make (kept-by e)
+  where
+    make : Kept → DewTemperature
+    make k = record { 0 = k }
+
+not-both : {b : Bool} → b ≡ true → b ≡ false → ⊥
+not-both p q = let z : _≡_ {A = ℕ} 0 1 = cc in omega arith
+
+pub one-saturation : (dry wet : ℤ) (r r′ : Saturations) → AreSaturations dry wet r → AreSaturations dry wet r′ → r ≡ r′
+one-saturation dry wet (Entries d w) (Entries d′ w′) p q =
+    let x : d ≡ d′ = pressure-by (near-one water dry (d .0) (d′ .0) (p .1) (q .1)) in
+    let y : w ≡ w′ = pressure-by (near-one water wet (w .0) (w′ .0) (p .2) (q .2)) in
+    cc
+one-saturation dry wet (Entries d w) OutsideTable p q = absurd (not-both (p .0) q)
+one-saturation dry wet OutsideTable (Entries d w) p q = absurd (not-both (q .0) p)
+one-saturation dry wet OutsideTable OutsideTable p q = refl
+
+pub one-dew : (e : ℕ) (r r′ : Dew) → IsDew e r → IsDew e r′ → r ≡ r′
+one-dew e (Point t) (Point t′) p q = ap Point (dew-by (dew-one e (t .0 .v) (t′ .0 .v) (p .1) (q .1)))
+one-dew e (Point t) OutsideRange p q = absurd (not-both (p .0) q)
+one-dew e OutsideRange (Point t) p q = absurd (not-both (q .0) p)
+one-dew e OutsideRange OutsideRange p q = refl
+
+pub single-saturation : Single saturation.Post
+single-saturation κs a r r′ s s′ p q = one-saturation _ _ r r′ p q
+
+pub single-dew-point : Single dew-point.Post
+single-dew-point κs a r r′ s s′ p q = one-dew _ r r′ p q

@@ -1,0 +1,72 @@
+-- The tables' rules: one test over a whole list, carried to each entry; and the place of a tenth. Assumes nothing.
+use mathlib.Core.Path.{_≡_, refl, sym, ap, subst}
+use mathlib.Core.Bool.{Bool, true}
+use mathlib.Core.List.{List}
+use Prim.Native.Nat.{ℕ, suc, _+_, _-_, _<_, _≤_}
+use native.Mathlib.Omega.{arith}
+use lib.Dec.{T, leb}
+use lib.IntN.{ℤ, pos, negsuc, natAbs, _+ℤ_}
+use lib.ListN.{length, getD}
+use lib.Signed.{leZ}
+use borrow.Author.Tests.{leb-true, le-ltb, lt-ltb}
+use Rattle.number.proofs.Sizes.{and-true}
+use Rattle.quantity.specs.Limits.{inside, bulb}
+use Rattle.vapour.specs.Vapour.{Near, AreSaturations, water}
+use Rattle.vapour.specs.Tables.{tenth, EntriesAt, Least}
+use Rattle.vapour.specs.declared.Saturations.{Saturations}
+use Rattle.vapour.specs.declared.Saturations.the-variants.{Entries, OutsideTable}
+use Rattle.vapour.proofs.EachEntry.{every, at}
+use Rattle.vapour.proofs.SaturationLaws.{near-test, near-by-test, table-rises}
+use Rattle.vapour.proofs.DewLaws.{least-test, least-by-test}
+
+-- the entry at a place, shut, so that a law finds the list in a goal: `rw entry-is`, then a law on `entry _ _`
+pub entry : List ℕ → ℕ → ℕ
+entry xs k = getD xs k 0
+
+pub entry-is : (xs : List ℕ) (k : ℕ) → getD xs k 0 ≡ entry xs k
+unfolding entry
+entry-is xs k = refl
+
+unfoldable pub entry-test : ℕ → ℕ → Bool
+unfolding near-test
+entry-test i r = near-test water (tenth i) r
+
+pub near-at : (xs : List ℕ) (k : ℕ) → T (every entry-test 0 xs) → k < length xs → Near water (tenth k) (entry xs k)
+unfolding entry entry-test
+near-at xs k passed h = near-by-test water (tenth k) (getD xs k 0) (at entry-test xs passed k h)
+
+pub least-at : (xs : List ℕ) (k : ℕ) → T (every least-test 0 xs) → k < length xs → Least k (entry xs k)
+unfolding entry
+least-at xs k passed h = least-by-test k (getD xs k 0) (at least-test xs passed k h)
+
+-- the first and the last entry, and so the range of all
+first-entry : Near water (negsuc 399) 19
+unfolding near-test
+first-entry = near-by-test water (negsuc 399) 19 tt
+
+last-entry : Near water (pos 500) 12345
+unfolding near-test
+last-entry = near-by-test water (pos 500) 12345 tt
+
+pub entry-range : (t : ℤ) (r : ℕ) → inside bulb t ≡ true → Near water t r → (19 ≤ r) × (r ≤ 12345)
+entry-range t r h n =
+    let both = and-true (leZ (negsuc 399) t) (leZ t (pos 500)) h in (
+      table-rises (negsuc 399) t 19 r (record { le = subst T (sym (both .0)) tt }) first-entry n,
+      table-rises t (pos 500) r 12345 (record { le = subst T (sym (both .1)) tt }) n last-entry,
+    )
+
+-- the place of a tenth in the table
+pub place-is : (t : ℤ) → inside bulb t ≡ true → let i = natAbs (t +ℤ pos 400) in (i < 901) × (tenth i ≡ t)
+place-is (pos n) h =
+    let l = leb-true n 500 (and-true true (leb n 500) h .1) in
+    (omega arith, simp (le-ltb (n + 400) 400 (omega arith)) (ap pos (omega arith)))
+place-is (negsuc n) h =
+    let l = leb-true n 399 (and-true (leb n 399) true h .0) in
+    let e : negsuc n +ℤ pos 400 ≡ pos (400 - suc n) = simp (le-ltb 400 (suc n) (omega arith)) in
+    rw e (omega arith, simp (lt-ltb (400 - suc n) 400 (omega arith)) (ap negsuc (omega arith)))
+
+-- the entries at the places of both bulbs are the bulbs' saturations
+pub entries-are : (dry wet : ℤ) (i j : ℕ) (r : Saturations) →
+    inside bulb dry ≡ true → inside bulb wet ≡ true → tenth i ≡ dry → tenth j ≡ wet → EntriesAt i j r → AreSaturations dry wet r
+entries-are dry wet i j (Entries d w) hd hw di wj e = (rw (hd, hw), rw di at (e .0), rw wj at (e .1))
+entries-are dry wet i j OutsideTable hd hw di wj e = absurd e

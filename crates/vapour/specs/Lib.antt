@@ -1,0 +1,3 @@
+pub mod Exp
+pub mod Vapour
+pub mod Tables

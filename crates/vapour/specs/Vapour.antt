@@ -1,0 +1,55 @@
+-- Saturation of water vapour and the dew point (document 01, "Humidity"). Temperatures in tenths of °C unless it says thousandths.
+use mathlib.Core.Path.{_≡_}
+use mathlib.Core.Bool.{Bool, true, false, _&&_}
+use Prim.Native.Nat.{ℕ, suc, _+_, _*_, _-_}
+use lib.Dec.{leb}
+use lib.IntN.{ℤ, pos, negsuc, _*ℤ_, _+ℤ_, _-ℤ_}
+use Rattle.quantity.specs.Limits.{inside, bulb}
+use Rattle.vapour.specs.Exp.{BelowExp, BelowReciprocal}
+use Rattle.vapour.specs.declared.Saturations.{Saturations}
+use Rattle.vapour.specs.declared.Saturations.the-variants.{Entries, OutsideTable}
+use Rattle.vapour.specs.declared.Dew.{Dew}
+use Rattle.vapour.specs.declared.Dew.the-variants.{Point, OutsideRange}
+
+-- The constants of a formula scale · exp (factor · t / (offset + t)) hPa at t °C: scale and factor in ten-thousandths, offset in
+-- thousandths of a degree.
+pub record Formula : Type 0 where
+  pub scale : ℕ
+  pub factor : ℕ
+  pub offset : ℕ
+
+-- "Saturation pressure over water at t °C is 6.1121 exp(17.5043 t / (241.2 + t)) hPa."
+abbrev pub water : Formula
+water = record { scale = 61121; factor = 175043; offset = 241200 }
+
+-- u / v hundredths of hPa lie below the exact saturation at t thousandths of a degree. From 0 up the exponent is
+-- factor · m / (10000 · (offset + m)), under 0 minus factor · m / (10000 · (offset - m)); u / v is compared over scale / 100.
+-- It means the formula above -offset (-241.2 °C); from there down nothing lies below, as if saturation were 0.
+unfoldable pub Below : Formula → ℤ → ℕ → ℕ → Type 0
+Below f (pos m) u v = BelowExp (f .factor * m) (10000 * (f .offset + m)) (100 * u) (f .scale * v)
+Below f (negsuc n) u v = BelowReciprocal (f .factor * suc n) (10000 * (f .offset - suc n)) (100 * u) (f .scale * v)
+
+-- "Each entry lies within half a hundredth of the exact value.": r - 1/2 < exact saturation at t ≤ r + 1/2
+pub record Near (f : Formula) (t : ℤ) (r : ℕ) : Type 0 where
+  pub low : Below f (pos 100 *ℤ t) (2 * r - 1) 2
+  pub high : Below f (pos 100 *ℤ t) (2 * r + 1) 2 → ⊥
+
+-- "Dew point: the tenth T with exact saturation at T - 0.05 ≤ e < exact saturation at T + 0.05."
+pub record DewPoint (e : ℕ) (t : ℤ) : Type 0 where
+  pub reached : Below water (pos 100 *ℤ t -ℤ pos 50) e 1 → ⊥
+  pub short : Below water (pos 100 *ℤ t +ℤ pos 50) e 1
+
+-- "One table for -40.0 to 50.0 °C": both bulbs have their entries, or one of them lies outside.
+abbrev pub AreSaturations : ℤ → ℤ → Saturations → Type 0
+AreSaturations dry wet (Entries d w) =
+    ((inside bulb dry && inside bulb wet) ≡ true) × Near water dry (d .0) × Near water wet (w .0)
+AreSaturations dry wet OutsideTable = (inside bulb dry && inside bulb wet) ≡ false
+
+-- A watch file's range of e: "e 19 to saturation, saturation 19 to 12345".
+abbrev pub recordedVapour : ℕ → Bool
+recordedVapour e = leb 19 e && leb e 12345
+
+-- The dew point of e in that range.
+abbrev pub IsDew : ℕ → Dew → Type 0
+IsDew e (Point t) = (recordedVapour e ≡ true) × DewPoint e (t .0 .v)
+IsDew e OutsideRange = recordedVapour e ≡ false

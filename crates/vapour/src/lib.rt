@@ -1,0 +1,113 @@
+// Saturation of water vapour over water, and the dew point.
+ghost use mathlib.Core.Path.{_≡_};
+ghost use mathlib.Core.Bool.{true};
+ghost use Prim.Native.Nat.{_<_, _≤_};
+ghost use Rattle.quantity.specs.Limits.{inside, bulb};
+ghost use Rattle.vapour.specs.Vapour.{AreSaturations, IsDew, DewPoint};
+ghost use Rattle.vapour.specs.Tables.{tenth, EntriesAt, Thresholds};
+use number::Kept;
+use number::Number;
+use quantity::BulbTemperature;
+use tables::SATURATION;
+use tables::THRESHOLDS;
+
+mod tables;
+
+// A pressure of vapour, in hundredths of hPa.
+pub struct VapourPressure(pub u32);
+
+// A dew point, in tenths of °C.
+pub struct DewTemperature(pub Kept);
+
+// What the table says of both bulbs.
+pub enum Saturations {
+    // The entry of the dry bulb, and that of the wet.
+    Entries(VapourPressure, VapourPressure),
+    // One of them is outside the table.
+    OutsideTable,
+}
+
+// What the dew point comes to.
+pub enum Dew {
+    Point(DewTemperature),
+    // The pressure is not one from 0.19 to 123.45 hPa.
+    OutsideRange,
+}
+
+// The place of t in the table.
+fn place(t: Number) -> usize
+    requires { ⌜ inside bulb (t .v) ≡ true ⌝ }
+    ensures { λ r. ⌜ (r < 901) × (tenth r ≡ t .v) ⌝ }
+{
+    let above = t.plus(Number { v: 400 });
+    above.size() as usize
+}
+
+// An entry as it is handed out.
+fn hundredths(entry: u16) -> VapourPressure
+    ensures { λ r. ⌜ r .0 ≡ entry ⌝ }
+{
+    VapourPressure(entry as u32)
+}
+
+// The entries at two places, from one read of the table.
+fn entries(i: usize, j: usize) -> Saturations
+    requires { ⌜ (i < 901) × (j < 901) ⌝ }
+    ensures { λ r. ⌜ EntriesAt i j r ⌝ }
+{
+    let table = SATURATION;
+    let d = hundredths(table[i]);
+    let w = hundredths(table[j]);
+    Saturations::Entries(d, w)
+}
+
+// Saturation at the dry and at the wet bulb, where both lie within the table.
+pub fn saturation(dry: BulbTemperature, wet: BulbTemperature) -> Saturations
+    ensures { λ r. ⌜ AreSaturations (dry .0 .v) (wet .0 .v) r ⌝ }
+{
+    let d = dry.0.number();
+    let w = wet.0.number();
+    if !BulbTemperature::holds(d) {
+        return Saturations::OutsideTable;
+    }
+    if !BulbTemperature::holds(w) {
+        return Saturations::OutsideTable;
+    }
+    entries(place(d), place(w))
+}
+
+// The place of the dew point of e: the last place whose threshold e reaches, by bisection.
+fn dew_place(table: &[u16; 902], e: u16) -> u32
+    requires { ⌜ (19 ≤ e) × (e ≤ 12345) × Thresholds (now table) ⌝ }
+    ensures { λ r. ⌜ (r < 901) × DewPoint e (tenth r) ⌝ }
+{
+    let mut low: usize = 0;
+    let mut high: usize = 901;
+    while low + 1 < high {
+        let middle = low + (high - low) / 2;
+        let threshold = table[middle];
+        if threshold <= e {
+            low = middle;
+        } else {
+            high = middle;
+        }
+    }
+    low as u32
+}
+
+// The dew point of e, from 0.19 to 123.45 hPa.
+pub fn dew_point(e: VapourPressure) -> Dew
+    ensures { λ r. ⌜ IsDew (e .0) r ⌝ }
+{
+    let pressure = e.0;
+    if pressure < 19 {
+        return Dew::OutsideRange;
+    }
+    if pressure > 12345 {
+        return Dew::OutsideRange;
+    }
+    let table = THRESHOLDS;
+    let i = dew_place(&table, pressure as u16);
+    let t = Number::whole(i).minus(Number { v: 400 });
+    Dew::Point(DewTemperature(t.keep()))
+}

@@ -1,0 +1,4 @@
+pub mod DewExists
+pub mod DewRules
+pub mod FieldLaws
+pub mod SingleAnswers

@@ -1,0 +1,3 @@
+pub mod Wind
+pub mod Answer
+pub mod Work

@@ -1,0 +1,14 @@
+pub mod PartLaws
+pub mod SizeLaws
+pub mod RestLaws
+pub mod TurnLaws
+pub mod WriteLaws
+pub mod ByteLaws
+pub mod RightLaws
+pub mod PassedLaws
+pub mod WrittenReadLaws
+pub mod ReadWrittenLaws
+pub mod RoundTrips
+pub mod WriteTheorems
+pub mod RefusalsInOrder
+pub mod SingleAnswers

@@ -1,0 +1,54 @@
+-- What a write answers and what it leaves in the lent buffer (document 01, "Numbered refusals", 16 and 17).
+use mathlib.Core.Path.{_≡_}
+use mathlib.Core.List.{List, [], _∷_, _++_}
+use Prim.Native.Nat.{ℕ, _≤_}
+use lib.Dec.{ltb}
+use lib.IntN.{ℤ}
+use lib.ListN.{length, drop, take}
+use Rattle.number.specs.Refusal.{Test, Answer, refused, given, answer, Numbered, numbered}
+use Rattle.watchfile.specs.Format.{DewRule, fileOf, recordTests, writing}
+use Rattle.watchfile.specs.declared.Record.{Record}
+use Rattle.writer.specs.declared.Written.{Written}
+use Rattle.writer.specs.declared.Written.the-variants as written
+use Rattle.writer.specs.declared.Checked.{Checked}
+use Rattle.writer.specs.declared.Checked.the-variants as checked
+
+-- Document 01's number of each case, and what it also returns.
+abbrev pub writtenAs : Written → Answer Numbered ℕ
+writtenAs (written.Done n) = given n
+writtenAs (written.BreaksRules i) = refused (numbered 16 (i ∷ []))
+writtenAs (written.TooShort n) = refused (numbered 17 (n ∷ []))
+
+-- A good write answers with the number of the file's bytes.
+abbrev pub sized : Answer Numbered (List ℕ) → Answer Numbered ℕ
+sized (refused r) = refused r
+sized (given file) = given (length file)
+
+-- "A successful write leaves bytes behind the file untouched."; a refused one leaves every byte
+abbrev pub leftBy : List ℕ → Answer Numbered (List ℕ) → List ℕ
+leftBy before (refused r) = before
+leftBy before (given file) = file ++ drop (length file) before
+
+-- A write of the first `count` records into the buffer `before`, which is `after` then, was answered by w.
+pub record Wrote (rule : ℕ → ℤ) (all : List Record) (count : ℕ) (before after : List ℕ) (w : Written) : Type 0 where
+  pub answer : writtenAs w ≡ sized (writing rule all count (length before))
+  pub bytes : after ≡ leftBy before (writing rule all count (length before))
+
+-- ---- before a byte is written: the tests of 16 alone
+
+abbrev pub rulesTests : (ℕ → ℤ) → List Record → ℕ → List (Test Numbered)
+rulesTests rule all count =
+    recordTests rule 0 0 (take count all) ++ (record { refusal = numbered 16 (48 ∷ []); holds = ltb 48 count } ∷ [])
+
+abbrev pub checkedAs : Checked → Answer Numbered ℕ
+checkedAs (checked.Needs n) = given n
+checkedAs (checked.BreaksRules i) = refused (numbered 16 (i ∷ []))
+
+-- Records that may be written are 48 at most, and need the bytes of their file.
+abbrev pub Room : List Record → ℕ → Checked → Type 0
+Room all count (checked.Needs n) = (count ≤ 48) × (n ≡ length (fileOf (take count all)))
+Room all count (checked.BreaksRules i) = Unit
+
+pub record Checks (all : List Record) (count : ℕ) (q : Checked) : Type 0 where
+  pub room : Room all count q
+  pub answer : (rule : ℕ → ℤ) → DewRule rule → checkedAs q ≡ answer (rulesTests rule all count) (length (fileOf (take count all)))
