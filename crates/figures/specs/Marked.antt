@@ -4,15 +4,17 @@ use mathlib.Core.List.{List, [], _∷_}
 use Prim.Native.Nat.{ℕ}
 use lib.IntN.{ℤ, pos, negℤ}
 use lib.ListN.{length}
+use Rattle.number.specs.Refusal.{given}
 use Rattle.quantity.specs.declared.BarometerUnit.{BarometerUnit}
 use Rattle.quantity.specs.declared.BarometerUnit.the-variants.{Millimetres}
 use Rattle.settings.specs.Settings.{pointAt}
 use Rattle.settings.specs.declared.Point.{Point}
-use Rattle.pressure.specs.Pressure.{Barometer, seaLevel}
+use Rattle.pressure.specs.Pressure.{seaLevelAnswer}
 use Rattle.wind.specs.Answer.{IsWind}
 use Rattle.wind.specs.declared.TrueWind.the-variants.{Blows}
-use Rattle.humidity.specs.Humidity.{IsHumidity}
+use Rattle.humidity.specs.Humidity.{IsMoisture}
 use Rattle.humidity.specs.declared.HumidityFigures.{HumidityFigures}
+use Rattle.humidity.specs.declared.Moisture.the-variants.{Given}
 
 -- A row: what is given, and the figures that it comes to.
 pub data Marked : Type 0 where
@@ -33,12 +35,15 @@ figures e saturation deficit relative dew =
       dew = record { 0 = record { v = dew } };
     }
 
--- What a row says.
+-- What a row says: that the answer is given, and these figures.
 abbrev pub Says : Marked → Type 0
 Says (pressure unit h difference coefficient points reading t p) =
-    seaLevel (record { unit = unit; height = h; difference = difference; coefficient = coefficient; points = length points; point = pointAt points }) reading t ≡ p
+    seaLevelAnswer
+    (record { unit = unit; height = h; difference = difference; coefficient = coefficient; points = length points; point = pointAt points })
+    reading t
+    ≡ given p
 Says (wind course ship apparent r v d) = IsWind course ship apparent r (Blows (record { 0 = v }) (record { 0 = d }))
-Says (humidity dry wet p a e saturation deficit relative dew) = IsHumidity dry wet p a (figures e saturation deficit relative dew)
+Says (humidity dry wet p a e saturation deficit relative dew) = IsMoisture dry wet p a (Given (figures e saturation deficit relative dew))
 
 abbrev pub AllSay : List Marked → Type 0
 AllSay [] = Unit
