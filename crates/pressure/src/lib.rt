@@ -2,7 +2,7 @@
 // A reading is a number of tenths of the unit that the store is set to.
 ghost use mathlib.Core.Path.{_≡_};
 ghost use mathlib.Core.Bool.{true};
-ghost use Prim.Native.Nat.{ℕ, _≤_, _<_, _^_};
+ghost use Prim.Native.Nat.{_≤_, _<_, _^_};
 ghost use lib.IntN.{natAbs, _+ℤ_, _*ℤ_};
 ghost use Rattle.number.specs.Whole.{Is};
 ghost use Rattle.store.specs.Block.{unitOf, settingOf};

@@ -32,8 +32,8 @@ pub struct FileRead {
 
 // A row of the contents.
 struct Row {
-    pub kind: u8,
-    pub minute: u32,
+    kind: u8,
+    minute: u32,
 }
 
 // What a row comes to.
@@ -87,12 +87,14 @@ const RELATIVE: usize = 6;
 
 const DEW: usize = 7;
 
+// The byte, to add up a number of two bytes.
 fn wide(x: u8) -> u16
     ensures { λ r. ⌜ (r ≡ x) × (r < 256) ⌝ }
 {
     x as u16
 }
 
+// The byte, to add up a number of four bytes.
 fn wide32(x: u8) -> u32
     ensures { λ r. ⌜ (r ≡ x) × (r < 256) ⌝ }
 {
@@ -365,6 +367,7 @@ fn bodies(file: &[u8], count: usize) -> FileRead
     }
 }
 
+// Whether two bytes are the label.
 fn label_right(a: u8, b: u8) -> bool
     ensures { λ r. ⌜ r ≡ (eqb a 0x57 && eqb b 0x54) ⌝ }
 {

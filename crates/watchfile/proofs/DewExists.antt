@@ -24,13 +24,13 @@ use Rattle.vapour.proofs.DewLaws.{under, least-test, least-by-test, next}
 guess : ℤ → ℕ
 unfolding top bottom
 guess (pos m) =
-    let p = 175043 * m in
-    let q = 10000 * (241200 + m) in
-    61121 * top p q 20 / (100 * bottom q 20) + 1
+    let p = water .factor * m in
+    let q = 10000 * (water .offset + m) in
+    water .scale * top p q 20 / (100 * bottom q 20) + 1
 guess (negsuc n) =
-    let p = 175043 * suc n in
-    let q = 10000 * (241200 - suc n) in
-    61121 * bottom q 20 / (100 * top p q 20) + 1
+    let p = water .factor * suc n in
+    let q = 10000 * (water .offset - suc n) in
+    water .scale * bottom q 20 / (100 * top p q 20) + 1
 
 least : ℕ → ℕ
 unfolding guess

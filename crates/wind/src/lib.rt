@@ -2,7 +2,7 @@
 // Speeds are in parts of 1/12500 m/s, sines and cosines in millionths.
 ghost use mathlib.Core.Path.{_≡_};
 ghost use mathlib.Core.Bool.{cond};
-ghost use Prim.Native.Nat.{ℕ, _+_, _*_, _-_, _≤_, _<_};
+ghost use Prim.Native.Nat.{_+_, _*_, _-_, _≤_, _<_};
 ghost use lib.IntN.{pos};
 ghost use Rattle.quantity.specs.Limits.{inside, degrees, knots, metresPerSecond};
 ghost use Rattle.wind.specs.Wind.{Nearest, count, between, turned, compass, from};
