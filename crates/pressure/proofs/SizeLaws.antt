@@ -15,8 +15,8 @@ use Rattle.quantity.specs.declared.BarometerUnit.the-variants.{Hectopascals, Mi
 use Rattle.settings.specs.declared.Point.{Point}
 use Rattle.store.specs.Layout.{POINTS}
 use Rattle.store.specs.Cells.{unbiased}
-use Rattle.store.specs.Block.{pointOf}
-use Rattle.pressure.specs.Pressure.{Barometer, barometerOf, around, scaleFrom, scale, temperature, height}
+use Rattle.store.specs.Block.{unitOf, settingOf, pointOf}
+use Rattle.pressure.specs.Pressure.{Barometer, barometerOf, around, scaleFrom, scale, temperature, height, toHectopascals, seaLevel}
 use Rattle.pressure.specs.Stored.{Stored}
 use Rattle.pressure.proofs.LineLaws.{rounded-at-most, between-size}
 
@@ -83,3 +83,25 @@ height-stored u m n = height-size u (unbiased m) (unbiased n) 32768 32768 8717 (
     fits : (u : BarometerUnit) → Height u 65536 8717
     fits Hectopascals = lit≤ tt
     fits Millimetres = lit≤ tt
+
+in-hectopascals-size : (u : BarometerUnit) (z : ℤ) (k : ℕ) → natAbs z ≤ k → natAbs (toHectopascals u z) ≤ 2 * k
+in-hectopascals-size Hectopascals z k h = omega arith
+in-hectopascals-size Millimetres z k h = rounded-at-most (z *ℤ pos 13332) 10000 (2 * k) (lit< tt) (omega (arith, size-mul z (pos 13332)))
+
+-- Sea level pressure of any block, from a reading and a temperature within their limits.
+pub sea-level-stored : (s : List ℕ) (r t : ℤ) → natAbs r ≤ 32768 → natAbs t ≤ 600 → natAbs (seaLevel (barometerOf s) r t) ≤ 187828
+unfolding seaLevel
+sea-level-stored s r t h k =
+    let a = scale (barometerOf s) r in
+    let b = temperature (settingOf s 3) t in
+    let c = height (unitOf s) (settingOf s 1) (settingOf s 2) in
+    in-hectopascals-size (unitOf s) (r +ℤ a +ℤ b +ℤ c) 93914
+    (omega (
+      arith,
+      size-sum (r +ℤ a +ℤ b) c,
+      size-sum (r +ℤ a) b,
+      size-sum r a,
+      scale-stored s r,
+      temperature-stored (getD s 3 0) t k,
+      height-stored (unitOf s) (getD s 1 0) (getD s 2 0),
+    ))

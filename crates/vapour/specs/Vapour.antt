@@ -45,6 +45,10 @@ AreSaturations dry wet (Entries d w) =
     ((inside bulb dry && inside bulb wet) ≡ true) × Near water dry (d .0) × Near water wet (w .0)
 AreSaturations dry wet OutsideTable = (inside bulb dry && inside bulb wet) ≡ false
 
+-- "One table for -40.0 to 50.0 °C by tenths": any function that gives each tenth its entry. There is one (proofs/TableExists).
+abbrev pub IsTable : (ℤ → ℕ) → Type 0
+IsTable table = (t : ℤ) → inside bulb t ≡ true → Near water t (table t)
+
 -- A watch file's range of e: "e 19 to saturation, saturation 19 to 12345".
 abbrev pub recordedVapour : ℕ → Bool
 recordedVapour e = leb 19 e && leb e 12345

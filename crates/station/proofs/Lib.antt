@@ -1,0 +1,5 @@
+pub mod KeptLaws
+pub mod AnswerLaws
+pub mod PressureLaws
+pub mod WindLaws
+pub mod HumidityLaws

@@ -1,0 +1,111 @@
+-- Pressure and tendency: what a reading's work comes to, and what two minutes' pressures come to, test by test. Assumes nothing.
+use mathlib.Core.Path.{_≡_, refl, sym, ap, _∙_, subst}
+use mathlib.Core.Bool.{Bool, true, false, not, _||_, cond}
+use mathlib.Core.List.{List, [], _∷_}
+use Prim.Native.Nat.{ℕ, _-_, _≤_}
+use native.Mathlib.Omega.{arith}
+use lib.Dec.{lit≤, lit<}
+use lib.IntN.{ℤ, pos, negℤ, natAbs, _-ℤ_}
+use borrow.Author.Tests.{not-false}
+use Rattle.number.specs.Refusal.{Numbered, numbered, Test, Answer, refused, given, answer}
+use Rattle.number.proofs.Sizes.{within-size}
+use Rattle.quantity.specs.Limits.{inside, pressureLimits, wheelhouse}
+use Rattle.store.specs.Block.{unitOf}
+use Rattle.store.specs.History.{isPresent}
+use Rattle.store.proofs.SettingsLaws.{pressure-size}
+use Rattle.pressure.specs.Pressure.{Barometer, barometerOf, outside, seaLevel, seaLevelAnswer, stationPressure, stationAnswer, pressureAs}
+use Rattle.pressure.specs.declared.WorkedPressure.{WorkedPressure}
+use Rattle.pressure.specs.declared.WorkedPressure.the-variants.{Given, OutsideLimits, OutsideCertificate}
+use Rattle.pressure.proofs.SizeLaws.{sea-level-stored}
+use Rattle.station.specs.Source.{Source, held, first}
+use Rattle.station.specs.Questions.{Answers, missingAt, outsideAt, seaLevelAt, Change, tendencyTests, TendencyRule}
+use Rattle.station.specs.Told.{TellsAt}
+use Rattle.station.specs.declared.AtMinute.the-variants.{NotKept, Outside, SeaLevel}
+use Rattle.station.proofs.AnswerLaws.{code, pass, passed, ruled}
+use Rattle.station.proofs.KeptLaws.{first-inside}
+
+-- ---- a worked pressure
+
+-- a reading within its limits is refused 12 where it lies outside the certificate, and else gives the figure
+abbrev pub Got : Bool → ℤ → WorkedPressure → Type 0
+Got isOutside z (Given p) = (isOutside ≡ false) × (p .0 .v ≡ z)
+Got isOutside z OutsideLimits = ⊥
+Got isOutside z OutsideCertificate = isOutside ≡ true
+
+got : (o : Bool) (z : ℤ) (w : WorkedPressure) → pressureAs w ≡ cond o (refused 12) (given z) → Got o z w
+got true z (Given p) e = absurd (let z : _≡_ {A = ℕ} 0 1 = cc in omega arith)
+got true z OutsideLimits e = absurd (let z : _≡_ {A = ℕ} 7 12 = cc in omega arith)
+got true z OutsideCertificate e = refl
+got false z (Given p) e = (refl, cc)
+got false z OutsideLimits e = absurd (let z : _≡_ {A = ℕ} 0 1 = cc in omega arith)
+got false z OutsideCertificate e = absurd (let z : _≡_ {A = ℕ} 0 1 = cc in omega arith)
+
+pub sea-level-got : (b : Barometer) (r t : ℤ) (w : WorkedPressure) → inside (pressureLimits (b .unit)) r ≡ true → inside wheelhouse t ≡ true
+    → pressureAs w ≡ seaLevelAnswer b r t → Got (outside b r) (seaLevel b r t) w
+unfolding seaLevelAnswer answer
+sea-level-got b r t w i j e = got (outside b r) (seaLevel b r t) w (e ∙ rw (i, j))
+
+pub station-got : (b : Barometer) (r : ℤ) (w : WorkedPressure) → inside (pressureLimits (b .unit)) r ≡ true
+    → pressureAs w ≡ stationAnswer b r → Got (outside b r) (stationPressure b r) w
+unfolding stationAnswer answer
+station-got b r w i e = got (outside b r) (stationPressure b r) w (e ∙ rw i)
+
+-- ---- sea level pressure at a minute
+
+module _ (S : Source) (m : ℕ) where
+  -- both readings are there
+  pub record There : Type 0 where
+    pub pressure : isPresent (S .recall 0 m) ≡ true
+    pub warmth : isPresent (S .recall 1 m) ≡ true
+
+  -- what the three tests come to
+  abbrev told : Bool → Bool → Bool → Answer Numbered (Unit {0})
+  told i j o = cond (not i) (refused (numbered 11 (0 ∷ m ∷ []))) (cond (not j) (refused (numbered 11 (1 ∷ m ∷ []))) (cond o (refused (numbered 12 (m ∷ []))) (given tt)))
+
+  -- a missing reading refuses before any later test
+  pub at-missing : {A : Type 0} (Rule : A → Type 0) (c : ℕ) (rest : List (Test Numbered)) → TellsAt S m (NotKept c)
+      → Answers (missingAt S m 0 ∷ missingAt S m 1 ∷ rest) Rule (refused (numbered 11 (c ∷ m ∷ [])))
+  unfolding answer Answers code
+  at-missing Rule c rest w = go (isPresent (S .recall 0 m)) (isPresent (S .recall 1 m)) (outside (S .barometer) (first (S .recall 0 m))) refl refl w
+    where
+      go : (i j o : Bool) → isPresent (S .recall 0 m) ≡ i → isPresent (S .recall 1 m) ≡ j → told i j o ≡ refused (numbered 11 (c ∷ m ∷ []))
+          → answer {A = Unit {0}} (missingAt S m 0 ∷ missingAt S m 1 ∷ rest) tt ≡ refused (numbered 11 (c ∷ m ∷ []))
+      go false j o p q e = rw p e
+      go true false o p q e = rw (p, q) e
+      go true true true p q e = absurd (let z = ap code e in omega arith)
+      go true true false p q e = absurd (let z = ap code e in omega arith)
+
+  pub at-outside : TellsAt S m Outside → There × (outside (S .barometer) (first (S .recall 0 m)) ≡ true)
+  unfolding answer Answers code
+  at-outside w = go (isPresent (S .recall 0 m)) (isPresent (S .recall 1 m)) (outside (S .barometer) (first (S .recall 0 m))) refl refl refl w
+    where
+      go : (i j o : Bool) → isPresent (S .recall 0 m) ≡ i → isPresent (S .recall 1 m) ≡ j → outside (S .barometer) (first (S .recall 0 m)) ≡ o
+          → told i j o ≡ refused (numbered 12 (m ∷ [])) → There × (outside (S .barometer) (first (S .recall 0 m)) ≡ true)
+      go false j o p q r e = absurd (let z = ap code e in omega arith)
+      go true false o p q r e = absurd (let z = ap code e in omega arith)
+      go true true false p q r e = absurd (let z = ap code e in omega arith)
+      go true true true p q r e = (record { pressure = p; warmth = q }, r)
+
+  pub at-given : {A : Type 0} (Rule : A → Type 0) (x : A) → Answers (missingAt S m 0 ∷ missingAt S m 1 ∷ outsideAt S m ∷ []) Rule (given x)
+      → There × (outside (S .barometer) (first (S .recall 0 m)) ≡ false) × Rule x
+  at-given Rule x w =
+      let a = passed (missingAt S m 0) _ Rule x w in
+      let b = passed (missingAt S m 1) _ Rule x (a .1) in
+      let c = passed (outsideAt S m) _ Rule x (b .1) in
+      (record { pressure = not-false _ (a .0); warmth = not-false _ (b .0) }, c .0, ruled Rule x (c .1))
+
+  pub pass-there : {A : Type 0} (Rule : A → Type 0) (rest : List (Test Numbered)) (a : Answer Numbered A) → There
+      → Answers rest Rule a → Answers (missingAt S m 0 ∷ missingAt S m 1 ∷ rest) Rule a
+  pass-there Rule rest a t w =
+      pass (missingAt S m 0) _ Rule a (ap not (t .pressure)) (pass (missingAt S m 1) rest Rule a (ap not (t .warmth)) w)
+
+-- the pressures of any block are small enough for their difference to fit
+pub at-size : (s : List ℕ) (m : ℕ) → There (held s) m → natAbs (seaLevelAt (held s) m) ≤ 187828
+at-size s m t =
+    let x = held s .recall in
+    sea-level-stored s (first (x 0 m)) (first (x 1 m))
+    (omega (arith, pressure-size (unitOf s) (first (x 0 m)) (first-inside s 0 m (lit< tt) (t .pressure))))
+    (within-size (negℤ (pos 400)) (pos 600) (first (x 1 m)) 600 (lit≤ tt) (lit≤ tt) (first-inside s 1 m (lit< tt) (t .warmth)))
+
+pub less : {a b c d : ℤ} → a ≡ c → b ≡ d → a -ℤ b ≡ c -ℤ d
+less p q = cc

@@ -1,0 +1,3 @@
+pub mod Source
+pub mod Questions
+pub mod Told

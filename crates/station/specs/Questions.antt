@@ -1,0 +1,119 @@
+-- The four questions: in which order they are tested, and by which rule their figures are worked.
+use mathlib.Core.Path.{_≡_}
+use mathlib.Core.Bool.{Bool, not, _&&_}
+use mathlib.Core.List.{List, [], _∷_, _++_}
+use Prim.Native.Nat.{ℕ, _-_}
+use lib.Dec.{ltb}
+use lib.IntN.{ℤ, natAbs, _-ℤ_}
+use Rattle.number.specs.Refusal.{Numbered, numbered, Test, Answer, refused, given, answer}
+use Rattle.quantity.specs.Limits.{lastMinute, inside, recordedPressure}
+use Rattle.settings.specs.Settings as settings
+use Rattle.store.specs.History.{isPresent}
+use Rattle.pressure.specs.Pressure.{outside, seaLevel, stationPressure}
+use Rattle.wind.specs.Answer.{IsWind}
+use Rattle.wind.specs.declared.TrueWind.{TrueWind}
+use Rattle.humidity.specs.Humidity.{vapourPressure, wetAboveDry, tooDry, IsHumidity}
+use Rattle.humidity.specs.declared.HumidityFigures.{HumidityFigures}
+use Rattle.station.specs.Source.{Source, first, second}
+
+-- ---- the reasons
+
+abbrev pub test : ℕ → List ℕ → Bool → Test Numbered
+test n extra reason = record { refusal = numbered n extra; holds = reason }
+
+-- 5: "minute above 16,777,215, .. asked"
+abbrev pub tooLate : ℕ → Test Numbered
+tooLate m = test 5 [] (ltb lastMinute m)
+
+-- 14: "tendency asked for a minute below 180"
+abbrev pub noThreeHours : ℕ → Test Numbered
+noThreeHours m = test 14 [] (ltb m 180)
+
+-- 11: "reading absent or no longer kept", with "channel, minute"
+abbrev pub missingAt : Source → ℕ → ℕ → Test Numbered
+missingAt S m c = test 11 (c ∷ m ∷ []) (not (isPresent (S .recall c m)))
+
+-- 12: "barometer reading outside the certificate", with "minute"
+abbrev pub outsideAt : Source → ℕ → Test Numbered
+outsideAt S m = test 12 (m ∷ []) (outside (S .barometer) (first (S .recall 0 m)))
+
+-- An answer: the first refusal whose reason holds, or figures by their rule.
+unfoldable pub Answers : {A : Type 0} → List (Test Numbered) → (A → Type 0) → Answer Numbered A → Type 0
+Answers tests Rule (refused r) = answer {A = Unit {0}} tests tt ≡ refused r
+Answers tests Rule (given a) = (answer {A = Unit {0}} tests tt ≡ given tt) × Rule a
+
+-- ---- pressure
+
+-- Sea level pressure at a minute.
+abbrev pub seaLevelAt : Source → ℕ → ℤ
+seaLevelAt S m = seaLevel (S .barometer) (first (S .recall 0 m)) (first (S .recall 1 m))
+
+abbrev pub pressureTests : Source → ℕ → List (Test Numbered)
+pressureTests S m = tooLate m ∷ missingAt S m 0 ∷ missingAt S m 1 ∷ outsideAt S m ∷ []
+
+abbrev pub PressureRule : Source → ℕ → ℤ → Type 0
+PressureRule S m p = p ≡ seaLevelAt S m
+
+-- ---- tendency
+
+-- A change of pressure, and how many minutes are absent.
+pub record Change : Type 0 where
+  pub change : ℤ
+  pub absent : ℕ
+
+-- "then 11 by minute, the earlier first, then channel, then 12 by minute likewise"
+abbrev pub tendencyTests : Source → ℕ → List (Test Numbered)
+tendencyTests S m =
+    tooLate m
+    ∷ noThreeHours m
+    ∷ missingAt S (m - 180) 0 ∷ missingAt S (m - 180) 1
+    ∷ missingAt S m 0 ∷ missingAt S m 1
+    ∷ outsideAt S (m - 180) ∷ outsideAt S m
+    ∷ []
+
+-- "Tendency at minute m: sea level pressure at m less that at m - 180, signed. With it goes the number of absent barometer
+-- minutes among the 179 strictly between."
+pub record TendencyRule (S : Source) (m : ℕ) (t : Change) : Type 0 where
+  pub change : t .change ≡ seaLevelAt S m -ℤ seaLevelAt S (m - 180)
+  pub absent : t .absent ≡ S .missing m
+
+-- ---- wind
+
+abbrev pub windTests : Source → ℕ → List (Test Numbered)
+windTests S m = tooLate m ∷ missingAt S m 2 ∷ missingAt S m 3 ∷ []
+
+-- Course and ship's speed of channel 3, speed and direction from the bow of channel 2.
+abbrev pub WindRule : Source → ℕ → TrueWind → Type 0
+WindRule S m w =
+    IsWind (natAbs (second (S .recall 3 m))) (natAbs (first (S .recall 3 m))) (natAbs (first (S .recall 2 m))) (natAbs (second (S .recall 2 m))) w
+
+-- ---- humidity
+
+-- Dry bulb, wet bulb, and the pressure at the station.
+abbrev pub dryAt : Source → ℕ → ℤ
+dryAt S m = first (S .recall 4 m)
+
+abbrev pub wetAt : Source → ℕ → ℤ
+wetAt S m = first (S .recall 5 m)
+
+abbrev pub stationAt : Source → ℕ → ℤ
+stationAt S m = stationPressure (S .barometer) (first (S .recall 0 m))
+
+-- e, with table(wet)
+abbrev pub vapourAt : (ℤ → ℕ) → Source → ℕ → ℤ
+vapourAt table S m = vapourPressure (table (wetAt S m)) (S .psychrometer) (stationAt S m) (dryAt S m) (wetAt S m)
+
+-- Tests that document 01 does not have stand between 12 and 13.
+abbrev pub humidityTests : List (Test Numbered) → (ℤ → ℕ) → Source → ℕ → List (Test Numbered)
+humidityTests more table S m =
+    tooLate m
+    ∷ missingAt S m 0 ∷ missingAt S m 4 ∷ missingAt S m 5
+    ∷ outsideAt S m
+    ∷ (more ++ (test 13 [] (wetAboveDry (dryAt S m) (wetAt S m)) ∷ test 15 [] (tooDry (vapourAt table S m)) ∷ []))
+
+abbrev pub HumidityRule : Source → ℕ → HumidityFigures → Type 0
+HumidityRule S m h = IsHumidity (dryAt S m) (wetAt S m) (stationAt S m) (S .psychrometer) h
+
+-- 7: the station pressure or A is outside its limits, which happens only in a block that no opening made (`never-foreign`).
+abbrev pub foreign : Source → ℕ → List (Test Numbered)
+foreign S m = test 7 [] (not (inside recordedPressure (stationAt S m) && inside settings.psychrometer (S .psychrometer))) ∷ []
