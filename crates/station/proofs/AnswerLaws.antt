@@ -2,7 +2,7 @@
 -- test holds. Assumes nothing.
 use mathlib.Core.Path.{_≡_, refl, sym, ap, _∙_}
 use mathlib.Core.Bool.{Bool, true, false, cond}
-use mathlib.Core.List.{List, [], _∷_}
+use mathlib.Core.List.{List, [], _∷_, _++_}
 use Prim.Native.Nat.{ℕ}
 use native.Mathlib.Omega.{arith}
 use lib.Dec.{ltb, leb}
@@ -40,17 +40,55 @@ pub end : {A : Type 0} (Rule : A → Type 0) (x : A) → Rule x → Answers [] R
 unfolding answer Answers
 end Rule x w = (refl, w)
 
--- and what was let pass
-pub passed : {A : Type 0} (t : Test Numbered) (ts : List (Test Numbered)) (Rule : A → Type 0) (x : A) → Answers (t ∷ ts) Rule (given x)
-    → (t .holds ≡ false) × Answers ts Rule (given x)
-unfolding answer Answers
-passed t ts Rule x w = go (t .holds) refl (w .0)
+-- what was let pass
+pub lets-pass : (t : Test Numbered) (ts : List (Test Numbered)) → answer {A = Unit {0}} (t ∷ ts) tt ≡ given tt
+    → (t .holds ≡ false) × (answer {A = Unit {0}} ts tt ≡ given tt)
+unfolding answer
+lets-pass t ts w = go (t .holds) refl w
   where
     go : (b : Bool) → t .holds ≡ b → cond b (refused (t .refusal)) (answer {A = Unit {0}} ts tt) ≡ given tt
-        → (t .holds ≡ false) × Answers ts Rule (given x)
+        → (t .holds ≡ false) × (answer {A = Unit {0}} ts tt ≡ given tt)
     go true h e = absurd (let z : _≡_ {A = ℕ} 0 1 = cc in omega arith)
-    go false h e = (h, (e, w .1))
+    go false h e = (h, e)
+
+pub passed : {A : Type 0} (t : Test Numbered) (ts : List (Test Numbered)) (Rule : A → Type 0) (x : A) → Answers (t ∷ ts) Rule (given x)
+    → (t .holds ≡ false) × Answers ts Rule (given x)
+unfolding Answers
+passed t ts Rule x w = let p = lets-pass t ts (w .0) in (p .0, (p .1, w .1))
 
 pub ruled : {A : Type 0} (Rule : A → Type 0) (x : A) → Answers [] Rule (given x) → Rule x
 unfolding Answers
 ruled Rule x w = w .1
+
+-- ---- whole answers
+
+-- the same tests and a rule that follows
+pub carry : {A : Type 0} (ts us : List (Test Numbered)) (Rule Rule′ : A → Type 0) (a : Answer Numbered A)
+    → answer {A = Unit {0}} ts tt ≡ answer us tt → ((x : A) → Rule x → Rule′ x) → Answers ts Rule a → Answers us Rule′ a
+unfolding Answers
+carry ts us Rule Rule′ (refused r) e f w = sym e ∙ w
+carry ts us Rule Rule′ (given x) e f w = (sym e ∙ w .0, f x (w .1))
+
+-- a rule that allows one figure allows one answer
+pub one-answer : {A : Type 0} (ts : List (Test Numbered)) (Rule : A → Type 0) → ((x y : A) → Rule x → Rule y → x ≡ y)
+    → (a b : Answer Numbered A) → Answers ts Rule a → Answers ts Rule b → a ≡ b
+unfolding Answers
+one-answer ts Rule one (refused r) (refused q) v w = let e : _≡_ {A = Answer Numbered (Unit {0})} (refused r) (refused q) = sym v ∙ w in let z : r ≡ q = cc in ap refused z
+one-answer ts Rule one (refused r) (given y) v w =
+    let e : _≡_ {A = Answer Numbered (Unit {0})} (refused r) (given tt) = sym v ∙ w .0 in absurd (let z : _≡_ {A = ℕ} 0 1 = cc in omega arith)
+one-answer ts Rule one (given x) (refused q) v w =
+    let e : _≡_ {A = Answer Numbered (Unit {0})} (refused q) (given tt) = sym w ∙ v .0 in absurd (let z : _≡_ {A = ℕ} 0 1 = cc in omega arith)
+one-answer ts Rule one (given x) (given y) v w = ap given (one x y (v .1) (w .1))
+
+-- a test that cannot hold where those before it let pass may be left out
+pub leave-out : (ts us : List (Test Numbered)) (t : Test Numbered) → (answer {A = Unit {0}} ts tt ≡ given tt → t .holds ≡ false)
+    → answer {A = Unit {0}} (ts ++ (t ∷ us)) tt ≡ answer (ts ++ us) tt
+unfolding answer
+leave-out [] us t f = rw (f refl)
+leave-out (s ∷ ts) us t f = go (s .holds) refl (leave-out ts us t)
+  where
+    go : (b : Bool) → s .holds ≡ b
+        → ((answer {A = Unit {0}} ts tt ≡ given tt → t .holds ≡ false) → answer {A = Unit {0}} (ts ++ (t ∷ us)) tt ≡ answer (ts ++ us) tt)
+        → cond b (refused (s .refusal)) (answer {A = Unit {0}} (ts ++ (t ∷ us)) tt) ≡ cond b (refused (s .refusal)) (answer (ts ++ us) tt)
+    go true h rest = refl
+    go false h rest = rest (λ e. f (rw h e))

@@ -3,3 +3,6 @@ pub mod AnswerLaws
 pub mod PressureLaws
 pub mod WindLaws
 pub mod HumidityLaws
+pub mod SourceLaws
+pub mod StoreLaws
+pub mod FedLaws
