@@ -6,3 +6,6 @@ pub mod HumidityLaws
 pub mod SourceLaws
 pub mod StoreLaws
 pub mod FedLaws
+pub mod ReplacedLaws
+pub mod RefusalsInOrder
+pub mod SingleAnswers

@@ -108,7 +108,7 @@ module _ (g : Settings) (good : checked g ≡ given tt) where
         let limits = first-inside block 0 m (lit< tt) (ap isPresent is ∙ there) in
         let r = first (heard g M .recall 0 m) in
         let inside-r : inside (pressureLimits (g .unit)) r ≡ true =
-            ap (λ (u : BarometerUnit). inside (pressureLimits u) r) (sym (barometer-is .unit)) ∙ ap (λ (x : Recall). inside (pressureLimits (unitOf block)) (first x)) (sym is) ∙ limits in
+        ap (λ (u : BarometerUnit). inside (pressureLimits u) r) (sym (barometer-is .unit)) ∙ ap (λ (x : Recall). inside (pressureLimits (unitOf block)) (first x)) (sym is) ∙ limits in
         let h = g .height .0 .v in
         let d = g .difference .0 .v in
         let k = g .coefficient .0 .v in
@@ -136,8 +136,8 @@ module _ (g : Settings) (good : checked g ≡ given tt) where
           let S = held (store-of g M) in
           let T = heard g M in
           let p : stationAt S m ≡ stationAt T m =
-              ap (λ (x : Recall). stationPressure (S .barometer) (first x)) (kept-is m 0 (lit< tt))
-              ∙ alike-station (S .barometer) (T .barometer) barometer-is (first (T .recall 0 m)) in
+          ap (λ (x : Recall). stationPressure (S .barometer) (first x)) (kept-is m 0 (lit< tt))
+          ∙ alike-station (S .barometer) (T .barometer) barometer-is (first (T .recall 0 m)) in
           rw (p, psychrometer-is)
 
       -- the test that document 01 does not have never refuses

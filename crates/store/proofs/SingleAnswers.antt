@@ -44,11 +44,11 @@ single-open-left κs a r r′ s s′ p q = p .1 ∙ sym (q .1)
 
 -- ---- hear
 
-hearing-of : Answer ℕ (Unit {0}) → Hearing
+pub hearing-of : Answer ℕ (Unit {0}) → Hearing
 hearing-of (refused n) = cond (eqb n 8) NotLater (Refused (refusal n))
 hearing-of (given a) = Heard
 
-hearing-back : (h : Hearing) → hearing-of (heardAs h) ≡ h
+pub hearing-back : (h : Hearing) → hearing-of (heardAs h) ≡ h
 unfolding hearing-of
 hearing-back Heard = refl
 hearing-back (Refused r) = go r

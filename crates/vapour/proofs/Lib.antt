@@ -6,3 +6,4 @@ pub mod SaturationLaws
 pub mod DewLaws
 pub mod TableLaws
 pub mod SingleAnswers
+pub mod TableExists

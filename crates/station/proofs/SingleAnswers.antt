@@ -1,0 +1,181 @@
+-- Each public contract of this crate allows a single answer, and `open` and `hear` a single block to be left: the tests are the same,
+-- a refusal is told by its number and extras, and each rule allows one figure. Assumes nothing.
+use mathlib.Core.Path.{_≡_, refl, sym, ap, _∙_}
+use mathlib.Core.Bool.{cond}
+use mathlib.Core.List.{List, [], _∷_}
+use Prim.Native.Nat.{ℕ}
+use denote.Ref.{now}
+use lib.Dec.{eqb}
+use lib.IntN.{ℤ, natAbs}
+use lib.ListN.{getD}
+use Rattle.number.specs.Single.{Single, SingleLeft}
+use Rattle.number.specs.Refusal.{Numbered, Test, Answer, refused, given}
+use Rattle.quantity.specs.declared.Hectopascals.{Hectopascals}
+use Rattle.quantity.specs.declared.Minute.{Minute}
+use Rattle.settings.proofs.SingleAnswers.{case-of, case-back}
+use Rattle.store.proofs.SingleAnswers.{hearing-of, hearing-back}
+use Rattle.vapour.proofs.TableExists.{the-table}
+use Rattle.wind.specs.declared.TrueWind.{TrueWind}
+use Rattle.wind.specs.declared.TrueWind.the-variants as blown
+use Rattle.wind.proofs.WindTheorems.{single-wind}
+use Rattle.humidity.specs.declared.HumidityFigures.{HumidityFigures}
+use Rattle.humidity.proofs.SingleAnswers.{one-humidity}
+use Rattle.station.specs.Source.{Source, held, first, second}
+use Rattle.station.specs.Questions.{Change, TendencyRule, PressureRule, WindRule, HumidityRule, pressureTests, tendencyTests, windTests, humidityTests, dryAt, wetAt, stationAt, foreign}
+use Rattle.station.specs.Told.{refusalOf, pressureAs, tendencyAs, windAs, humidityAs, TellsPressure, TellsTendency, TellsWind, TellsHumidity}
+use Rattle.station.specs.declared.QuestionRefusal.{QuestionRefusal}
+use Rattle.station.specs.declared.QuestionRefusal.the-variants.{MinuteTooLate, OutsideLimits, MissingReading, OutsideCertificate, WetAboveDry, NoThreeHours, TooDry}
+use Rattle.station.specs.declared.PressureAnswer.{PressureAnswer}
+use Rattle.station.specs.declared.PressureAnswer.the-variants as pressed
+use Rattle.station.specs.declared.TendencyAnswer.{TendencyAnswer}
+use Rattle.station.specs.declared.TendencyAnswer.the-variants as changed
+use Rattle.station.specs.declared.WindAnswer.{WindAnswer}
+use Rattle.station.specs.declared.WindAnswer.the-variants as blew
+use Rattle.station.specs.declared.HumidityAnswer.{HumidityAnswer}
+use Rattle.station.specs.declared.HumidityAnswer.the-variants as moist
+use Rattle.station.proofs.AnswerLaws.{one-answer}
+use Rattle.station.proofs.«open».Reads as opening
+use Rattle.station.proofs.hear.Reads as hear
+use Rattle.station.proofs.pressure.Reads as pressure
+use Rattle.station.proofs.tendency.Reads as tendency
+use Rattle.station.proofs.wind.Reads as wind
+use Rattle.station.proofs.humidity.Reads as humidity
+
+-- ---- open and hear
+
+pub single-open : Single opening.Post
+single-open κs a r r′ s s′ p q = sym (case-back r) ∙ ap case-of (p .0 ∙ sym (q .0)) ∙ case-back r′
+
+pub single-open-left : SingleLeft opening.Post (λ κs s. s .0 .now)
+single-open-left κs a r r′ s s′ p q = p .1 ∙ sym (q .1)
+
+pub single-hear : Single hear.Post
+single-hear κs a r r′ s s′ p q = sym (hearing-back r) ∙ ap hearing-of (p .answer ∙ sym (q .answer)) ∙ hearing-back r′
+
+pub single-hear-left : SingleLeft hear.Post (λ κs s. s .0 .now)
+single-hear-left κs a r r′ s s′ p q = p .block ∙ sym (q .block)
+
+-- ---- a refusal is told by its number and extras
+
+minute-of : ℕ → Minute
+minute-of m = record { 0 = m }
+
+refusal : Numbered → QuestionRefusal
+unfolding minute-of
+refusal n =
+    cond (eqb (n .number) 5) MinuteTooLate
+    (cond (eqb (n .number) 7) OutsideLimits
+    (cond (eqb (n .number) 11) (MissingReading (getD (n .extra) 0 0) (minute-of (getD (n .extra) 1 0)))
+    (cond (eqb (n .number) 12) (OutsideCertificate (minute-of (getD (n .extra) 0 0)))
+    (cond (eqb (n .number) 13) WetAboveDry
+    (cond (eqb (n .number) 14) NoThreeHours
+    TooDry)))))
+
+refusal-back : (r : QuestionRefusal) → refusal (refusalOf r) ≡ r
+unfolding refusal
+refusal-back MinuteTooLate = refl
+refusal-back OutsideLimits = refl
+refusal-back (MissingReading c m) = refl
+refusal-back (OutsideCertificate m) = refl
+refusal-back WetAboveDry = refl
+refusal-back NoThreeHours = refl
+refusal-back TooDry = refl
+
+tenths : ℤ → Hectopascals
+tenths z = record { 0 = record { v = z } }
+
+-- ---- pressure
+
+pressure-of : Answer Numbered ℤ → PressureAnswer
+pressure-of (refused n) = pressed.Refused (refusal n)
+pressure-of (given p) = pressed.Given (tenths p)
+
+pressure-back : (r : PressureAnswer) → pressure-of (pressureAs r) ≡ r
+unfolding pressure-of tenths
+pressure-back (pressed.Refused r) = ap pressed.Refused (refusal-back r)
+pressure-back (pressed.Given p) = refl
+
+pub one-pressure : (S : Source) (m : ℕ) (r r′ : PressureAnswer) → TellsPressure S m r → TellsPressure S m r′ → r ≡ r′
+one-pressure S m r r′ p q =
+    sym (pressure-back r)
+    ∙ ap pressure-of (one-answer (pressureTests S m) (PressureRule S m) (λ x y v w. v ∙ sym w) (pressureAs r) (pressureAs r′) p q)
+    ∙ pressure-back r′
+
+pub single-pressure : Single pressure.Post
+single-pressure κs a r r′ s s′ p q = one-pressure (held (now (a .0))) (a .1 .0) r r′ p q
+
+-- ---- tendency
+
+change-of : ℤ → ℕ → Change
+change-of z n = record { change = z; absent = n }
+
+one-change : (S : Source) (m : ℕ) (x y : Change) → TendencyRule S m x → TendencyRule S m y → x ≡ y
+unfolding change-of
+one-change S m x y v w = all
+  where
+    all : change-of (x .change) (x .absent) ≡ change-of (y .change) (y .absent)
+    all = let p = v .change ∙ sym (w .change) in let q = v .absent ∙ sym (w .absent) in cc
+
+tendency-of : Answer Numbered Change → TendencyAnswer
+tendency-of (refused n) = changed.Refused (refusal n)
+tendency-of (given t) = changed.Given (tenths (t .change)) (t .absent)
+
+tendency-back : (r : TendencyAnswer) → tendency-of (tendencyAs r) ≡ r
+unfolding tendency-of tenths
+tendency-back (changed.Refused r) = ap changed.Refused (refusal-back r)
+tendency-back (changed.Given c n) = refl
+
+pub one-tendency : (S : Source) (m : ℕ) (r r′ : TendencyAnswer) → TellsTendency S m r → TellsTendency S m r′ → r ≡ r′
+one-tendency S m r r′ p q =
+    sym (tendency-back r)
+    ∙ ap tendency-of (one-answer (tendencyTests S m) (TendencyRule S m) (one-change S m) (tendencyAs r) (tendencyAs r′) p q)
+    ∙ tendency-back r′
+
+pub single-tendency : Single tendency.Post
+single-tendency κs a r r′ s s′ p q = one-tendency (held (now (a .0))) (a .1 .0) r r′ p q
+
+-- ---- wind
+
+wind-of : Answer Numbered TrueWind → WindAnswer
+wind-of (refused n) = blew.Refused (refusal n)
+wind-of (given (blown.Blows v d)) = blew.Given v d
+wind-of (given blown.OutsideLimits) = blew.Refused OutsideLimits
+
+wind-back : (r : WindAnswer) → wind-of (windAs r) ≡ r
+unfolding wind-of
+wind-back (blew.Refused r) = ap blew.Refused (refusal-back r)
+wind-back (blew.Given v d) = refl
+
+pub one-wind : (S : Source) (m : ℕ) (r r′ : WindAnswer) → TellsWind S m r → TellsWind S m r′ → r ≡ r′
+one-wind S m r r′ p q =
+    sym (wind-back r)
+    ∙ ap wind-of
+    (one-answer (windTests S m) (WindRule S m)
+    (single-wind (natAbs (second (S .recall 3 m))) (natAbs (first (S .recall 3 m))) (natAbs (first (S .recall 2 m))) (natAbs (second (S .recall 2 m))))
+    (windAs r) (windAs r′) p q)
+    ∙ wind-back r′
+
+pub single-wind-answer : Single wind.Post
+single-wind-answer κs a r r′ s s′ p q = one-wind (held (now (a .0))) (a .1 .0) r r′ p q
+
+-- ---- humidity
+
+humidity-of : Answer Numbered HumidityFigures → HumidityAnswer
+humidity-of (refused n) = moist.Refused (refusal n)
+humidity-of (given h) = moist.Given h
+
+humidity-back : (r : HumidityAnswer) → humidity-of (humidityAs r) ≡ r
+unfolding humidity-of
+humidity-back (moist.Refused r) = ap moist.Refused (refusal-back r)
+humidity-back (moist.Given h) = refl
+
+pub one-humidity-answer : (more : List (Test Numbered)) (S : Source) (m : ℕ) (r r′ : HumidityAnswer) → TellsHumidity more S m r → TellsHumidity more S m r′ → r ≡ r′
+one-humidity-answer more S m r r′ p q =
+    let t = the-table in
+    sym (humidity-back r)
+    ∙ ap humidity-of
+    (one-answer (humidityTests more (t .0) S m) (HumidityRule S m) (one-humidity (dryAt S m) (wetAt S m) (stationAt S m) (S .psychrometer)) (humidityAs r) (humidityAs r′) (p (t .0) (t .1)) (q (t .0) (t .1)))
+    ∙ humidity-back r′
+
+pub single-humidity : Single humidity.Post
+single-humidity κs a r r′ s s′ p q = let S = held (now (a .0)) in one-humidity-answer (foreign S (a .1 .0)) S (a .1 .0) r r′ p q
