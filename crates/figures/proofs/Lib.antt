@@ -1,2 +1,1 @@
 pub mod MarkedFigures
-pub mod RecordedFigures

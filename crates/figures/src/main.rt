@@ -19,6 +19,9 @@ use settings::PsychrometerCoefficient;
 use settings::SeaLevelDifference;
 use settings::Settings;
 use settings::TemperatureCoefficient;
+use station::QuestionRefusal;
+use station::TendencyAnswer;
+use store::Store;
 use wind::TrueWind;
 
 fn say(text: &[u8]) {
@@ -122,6 +125,72 @@ fn humidity_of(dry: i32, wet: i32) {
     }
 }
 
+// A channel's message of one value, little endian: 996.0 hPa as a binary32 is 44 79 00 00, 12.0 °C is 41 40 00 00.
+fn hear_both(store: &mut Store, low: u8, high: u8) {
+    let barometer: [u8; 16] = [0, 0, 0, 0, low, high, 0, 0, 0, 0, 121, 68, 0, 0, 0, 0];
+    let thermometer: [u8; 16] = [1, 0, 0, 0, low, high, 0, 0, 0, 0, 64, 65, 0, 0, 0, 0];
+    station::hear(store, &barometer);
+    station::hear(store, &thermometer);
+}
+
+fn say_refusal(r: QuestionRefusal) {
+    match r {
+        QuestionRefusal::MinuteTooLate => say(b"refused 5"),
+        QuestionRefusal::OutsideLimits => say(b"refused 7"),
+        QuestionRefusal::MissingReading(c, m) => {
+            say(b"refused 11");
+            say_natural(c);
+            say_natural(m.0);
+        }
+        QuestionRefusal::OutsideCertificate(m) => {
+            say(b"refused 12");
+            say_natural(m.0);
+        }
+        QuestionRefusal::WetAboveDry => say(b"refused 13"),
+        QuestionRefusal::NoThreeHours => say(b"refused 14"),
+        QuestionRefusal::TooDry => say(b"refused 15"),
+    }
+    say(b"\n");
+}
+
+fn tendency_at(store: &Store, minute: u32) {
+    match station::tendency(store, minute) {
+        TendencyAnswer::Given(c, absent) => {
+            say(b"tendency");
+            say_number(c.0);
+            say(b" ");
+            io::print_decimal(STDOUT_FILENO, absent);
+            say(b"\n");
+        }
+        TendencyAnswer::Refused(r) => say_refusal(r),
+    }
+}
+
+// Barometer and thermometer at 100 and 280 only, then both at 400.
+fn watch_with_a_gap() {
+    let mut store = [0u64; store::WORDS];
+    let first = point(8500, 0);
+    let mut points = [first; 16];
+    points[1] = point(11000, 0);
+    station::open(
+        &mut store,
+        Settings {
+            unit: BarometerUnit::Hectopascals,
+            height: Height(Kept { v: 0 }),
+            difference: SeaLevelDifference(Kept { v: 0 }),
+            coefficient: TemperatureCoefficient(Kept { v: 0 }),
+            psychrometer: PsychrometerCoefficient(Kept { v: 662 }),
+            count: 2,
+            points,
+        },
+    );
+    hear_both(&mut store, 100, 0);
+    hear_both(&mut store, 24, 1);
+    tendency_at(&store, 280);
+    hear_both(&mut store, 144, 1);
+    tendency_at(&store, 400);
+}
+
 fn main() {
     pressure_at_sea_level(0);
     pressure_at_sea_level(-268);
@@ -135,4 +204,5 @@ fn main() {
     humidity_of(0, 0);
     humidity_of(-400, -400);
     humidity_of(300, 50);
+    watch_with_a_gap();
 }

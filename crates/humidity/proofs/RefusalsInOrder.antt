@@ -4,8 +4,8 @@ use mathlib.Core.Path.{_≡_, sym, _∙_}
 use mathlib.Core.Logic.{_↔_}
 use Prim.Native.Nat.{ℕ}
 use lib.IntN.{ℤ}
-use Rattle.number.specs.Refusal.{refused, given, Holds}
-use Rattle.number.proofs.RefusalLaws.{NoneBelow, in-number-order, given-exactly}
+use Rattle.number.specs.Refusal.{refused, given, Holds, NoneBelow}
+use Rattle.number.proofs.RefusalLaws.{in-number-order, given-exactly}
 use Rattle.humidity.specs.Humidity.{vapourPressure, tests, moistureAs, IsMoisture}
 use Rattle.humidity.specs.declared.Moisture.{Moisture}
 

@@ -10,15 +10,7 @@ use native.Mathlib.Decide.{decLt}
 use native.Mathlib.Nat.{not-suc-le-zero, le-of-suc-le-suc}
 use lib.Dec.{T, ltb, ltb→lt}
 use lib.Ieee.Fits.{and-l, and-r}
-use Rattle.number.specs.Refusal.{Test, Answer, refused, given, answer, HoldsAt, Holds, inOrder}
-
--- no test before a place holds
-abbrev pub NoneBefore : {R : Type 0} → List (Test R) → ℕ → Type 0
-NoneBefore {R} ts place = (p : ℕ) (r : R) → p < place → HoldsAt ts p r → ⊥
-
--- no test of a smaller number holds
-abbrev pub NoneBelow : List (Test ℕ) → ℕ → Type 0
-NoneBelow ts n = (m : ℕ) → m < n → Holds ts m → ⊥
+use Rattle.number.specs.Refusal.{Test, Answer, refused, given, answer, HoldsAt, Holds, NoneBefore, First, NoneBelow, inOrder}
 
 module _ {R A : Type 0} (a : A) where
   not-both : (r : R) → _≡_ {A = Answer R A} (given a) (refused r) → ⊥
@@ -31,13 +23,13 @@ module _ {R A : Type 0} (a : A) where
   more-before t ts place h f (suc p) q l k = f p q (le-of-suc-le-suc l) k
 
   refused-here : (t : Test R) (ts : List (Test R)) (r : R) (b : Bool) → t .holds ≡ b →
-      (answer ts a ≡ refused r → (place : ℕ) × HoldsAt ts place r × NoneBefore ts place) →
-      answer (t ∷ ts) a ≡ refused r → (place : ℕ) × HoldsAt (t ∷ ts) place r × NoneBefore (t ∷ ts) place
+      (answer ts a ≡ refused r → First ts r) →
+      answer (t ∷ ts) a ≡ refused r → First (t ∷ ts) r
   unfolding answer
   refused-here t ts r true h rest e = (0, (subst T (sym h) tt, let e' = rw h at e in cc), λ p q l k. not-suc-le-zero l)
   refused-here t ts r false h rest e = let found = rest (rw h at e) in (suc (found .0), found .1, more-before t ts (found .0) h (found .2))
 
-  pub refused-then : (ts : List (Test R)) (r : R) → answer ts a ≡ refused r → (place : ℕ) × HoldsAt ts place r × NoneBefore ts place
+  pub refused-then : (ts : List (Test R)) (r : R) → answer ts a ≡ refused r → First ts r
   unfolding answer
   refused-then [] r e = absurd (not-both r e)
   refused-then (t ∷ ts) r e = refused-here t ts r (t .holds) refl (refused-then ts r) e
@@ -57,7 +49,7 @@ module _ {R A : Type 0} (a : A) where
       go false h e = rw h e
 
   -- The answer is the refusal r exactly when a test that refuses with r holds and no test before it does.
-  pub refused-exactly : (ts : List (Test R)) (r : R) → (answer ts a ≡ refused r) ↔ ((place : ℕ) × HoldsAt ts place r × NoneBefore ts place)
+  pub refused-exactly : (ts : List (Test R)) (r : R) → (answer ts a ≡ refused r) ↔ First ts r
   refused-exactly ts r = (refused-then ts r, λ w. then-refused ts r (w .0) (w .1) (w .2))
 
   -- What was asked for is given exactly when no test holds.

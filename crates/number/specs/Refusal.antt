@@ -2,7 +2,7 @@
 use mathlib.Core.Path.{_≡_}
 use mathlib.Core.Bool.{Bool, true, _&&_, cond}
 use mathlib.Core.List.{List, [], _∷_}
-use Prim.Native.Nat.{ℕ, zero, suc}
+use Prim.Native.Nat.{ℕ, zero, suc, _<_}
 use lib.Dec.{T, ltb}
 
 -- A refusal of document 01 that returns more than its number.
@@ -37,6 +37,18 @@ HoldsAt (t ∷ ts) (suc place) r = HoldsAt ts place r
 -- Some test that refuses with r holds.
 abbrev pub Holds : {R : Type 0} → List (Test R) → R → Type 0
 Holds ts r = (place : ℕ) × HoldsAt ts place r
+
+-- No test before a place holds.
+abbrev pub NoneBefore : {R : Type 0} → List (Test R) → ℕ → Type 0
+NoneBefore {R} ts place = (p : ℕ) (r : R) → p < place → HoldsAt ts p r → ⊥
+
+-- "its reason holds and no earlier test has refused"
+abbrev pub First : {R : Type 0} → List (Test R) → R → Type 0
+First ts r = (place : ℕ) × HoldsAt ts place r × NoneBefore ts place
+
+-- No test of a smaller number holds.
+abbrev pub NoneBelow : List (Test ℕ) → ℕ → Type 0
+NoneBelow ts n = (m : ℕ) → m < n → Holds ts m → ⊥
 
 -- The tests stand in number order, each number above n.
 abbrev pub inOrder : ℕ → List (Test ℕ) → Bool

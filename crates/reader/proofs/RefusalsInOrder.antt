@@ -6,8 +6,8 @@ use mathlib.Core.Logic.{_↔_}
 use Prim.Native.Nat.{ℕ}
 use lib.IntN.{ℤ}
 use lib.ListN.{length}
-use Rattle.number.specs.Refusal.{Test, Answer, refused, given, HoldsAt, Holds}
-use Rattle.number.proofs.RefusalLaws.{NoneBefore, refused-exactly, given-exactly}
+use Rattle.number.specs.Refusal.{Test, Answer, refused, given, Holds, First}
+use Rattle.number.proofs.RefusalLaws.{refused-exactly, given-exactly}
 use Rattle.watchfile.specs.Fields.{fieldTests}
 use Rattle.watchfile.specs.Format.{fields, records, reading}
 use Rattle.watchfile.specs.declared.Record.{Record}
@@ -20,11 +20,7 @@ use Rattle.reader.proofs.SingleAnswers.{verdict-by}
 abbrev pub tests : (ℕ → ℤ) → List ℕ → List (Test ℕ)
 tests rule s = fieldTests (length s) (fields rule s)
 
--- a test with this place holds, and none before it does
-abbrev pub FirstAt : List (Test ℕ) → ℕ → Type 0
-FirstAt ts place = (k : ℕ) × HoldsAt ts k place × NoneBefore ts k
-
-pub reading-refused : (rule : ℕ → ℤ) (s : List ℕ) (place : ℕ) → (reading rule s ≡ refused place) ↔ FirstAt (tests rule s) place
+pub reading-refused : (rule : ℕ → ℤ) (s : List ℕ) (place : ℕ) → (reading rule s ≡ refused place) ↔ First (tests rule s) place
 unfolding reading
 reading-refused rule s place = refused-exactly (records s) (tests rule s) place
 
@@ -38,7 +34,7 @@ counted-refused (given rs) place e = cc
 
 -- The reader's own verdict.
 pub read-refused : (rule : ℕ → ℤ) (s : List ℕ) (r : FileRead) → HandsBack (reading rule s) r → (place : ℕ) →
-    (r .verdict ≡ Broken place) ↔ FirstAt (tests rule s) place
+    (r .verdict ≡ Broken place) ↔ First (tests rule s) place
 read-refused rule s r h place = (
   λ e. reading-refused rule s place .0 (counted-refused (reading rule s) place (sym (h .verdict) ∙ ap verdictAs e)),
   λ w. verdict-by (r .verdict) (Broken place) (h .verdict ∙ ap counted (reading-refused rule s place .1 w)),

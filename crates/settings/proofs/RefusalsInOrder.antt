@@ -3,8 +3,8 @@
 use mathlib.Core.Path.{_≡_}
 use mathlib.Core.Logic.{_↔_}
 use Prim.Native.Nat.{ℕ}
-use Rattle.number.specs.Refusal.{Answer, refused, given, Holds}
-use Rattle.number.proofs.RefusalLaws.{NoneBelow, in-number-order, given-exactly}
+use Rattle.number.specs.Refusal.{Answer, refused, given, Holds, NoneBelow}
+use Rattle.number.proofs.RefusalLaws.{in-number-order, given-exactly}
 use Rattle.settings.specs.Settings.{tests, checked}
 use Rattle.settings.specs.declared.Settings.{Settings}
 

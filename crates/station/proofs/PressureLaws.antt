@@ -19,7 +19,7 @@ use Rattle.pressure.specs.declared.WorkedPressure.the-variants.{Given, OutsideL
 use Rattle.pressure.proofs.SizeLaws.{sea-level-stored}
 use Rattle.station.specs.Source.{Source, held, first}
 use Rattle.station.specs.Questions.{Answers, missingAt, outsideAt, seaLevelAt, Change, tendencyTests, TendencyRule}
-use Rattle.station.specs.Told.{TellsAt}
+use Rattle.station.specs.Parts.{TellsAt}
 use Rattle.station.specs.declared.AtMinute.the-variants.{NotKept, Outside, SeaLevel}
 use Rattle.station.proofs.AnswerLaws.{code, pass, passed, ruled}
 use Rattle.station.proofs.KeptLaws.{first-inside}

@@ -9,8 +9,8 @@ use native.Mathlib.Omega.{arith}
 use lib.Dec.{leb, lit<}
 use lib.ListN.{length}
 use borrow.Author.Tests.{eq-eqb}
-use Rattle.number.specs.Refusal.{Numbered, Test, Answer, refused, given, answer, HoldsAt, Holds}
-use Rattle.number.proofs.RefusalLaws.{NoneBefore, NoneBelow, refused-then, then-refused, given-then, then-given, in-number-order}
+use Rattle.number.specs.Refusal.{Numbered, Test, Answer, refused, given, answer, Holds, NoneBelow, First}
+use Rattle.number.proofs.RefusalLaws.{refused-then, then-refused, given-then, then-given, in-number-order}
 use Rattle.message.specs.Bytes.{minute}
 use Rattle.message.specs.Decode.{message}
 use Rattle.message.specs.Receive.{Entry, entry, tests}
@@ -23,9 +23,9 @@ use Rattle.window.specs.Layout.{WINDOW}
 use Rattle.window.specs.Window.{takes, next}
 use Rattle.store.specs.Layout.{CHANNELS}
 use Rattle.store.specs.Block.{unitOf, windowOf, isLater, hearing, hearTests, entryOfBytes}
-use Rattle.store.specs.History.{nextOf, history}
+use Rattle.store.specs.History.{nextOf, history, store-of}
 use Rattle.store.proofs.BlockLaws.{window-long}
-use Rattle.store.proofs.HistoryLaws.{store-of, store-remembers}
+use Rattle.store.proofs.HistoryLaws.{store-remembers}
 use Rattle.station.specs.Questions.{Answers}
 use Rattle.station.specs.Feeds.{wouldKeep, messageTests}
 
@@ -33,7 +33,7 @@ use Rattle.station.specs.Feeds.{wouldKeep, messageTests}
 
 module _ {A : Type 0} (ts : List (Test Numbered)) (Rule : A → Type 0) where
   -- A question is refused exactly when a reason holds and none before it.
-  pub question-refused : (a : Answer Numbered A) → Answers ts Rule a → (n : Numbered) → (a ≡ refused n) ↔ ((place : ℕ) × HoldsAt ts place n × NoneBefore ts place)
+  pub question-refused : (a : Answer Numbered A) → Answers ts Rule a → (n : Numbered) → (a ≡ refused n) ↔ First ts n
   unfolding Answers
   question-refused (refused r) w n = (
     λ e. refused-then tt ts n (w ∙ (let z : r ≡ n = cc in ap refused z)),

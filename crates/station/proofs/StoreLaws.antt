@@ -12,7 +12,7 @@ use lib.Seq.{getD-take}
 use borrow.Author.Tests.{ltb-true, not-false}
 use Rattle.number.specs.Refusal.{Numbered, Test, answer, given}
 use Rattle.number.proofs.Sizes.{and-true}
-use Rattle.quantity.specs.Limits.{inside, pressureLimits, recordedPressure}
+use Rattle.quantity.specs.Limits.{inside, recordedPressure}
 use Rattle.quantity.specs.declared.BarometerUnit.{BarometerUnit}
 use Rattle.quantity.specs.declared.BarometerUnit.the-variants.{Hectopascals, Millimetres}
 use Rattle.settings.specs.Settings.{checked, othersHold, nowhere}
@@ -20,10 +20,10 @@ use Rattle.settings.specs.Settings as settings
 use Rattle.settings.specs.declared.Settings.{Settings}
 use Rattle.settings.specs.declared.Point.{Point}
 use Rattle.store.specs.Layout.{SETTINGS, WORDS, CHANNELS, POINTS}
-use Rattle.store.specs.Cells.{unbiased}
+use Rattle.store.specs.Cells.{unbiased, limitsOf}
 use Rattle.store.specs.Block.{Recall, opened, unitOf, settingOf, pointIn, pointOf, recallOf, absentOf}
-use Rattle.store.specs.History.{history, remembered, isPresent, Remembers}
-use Rattle.store.proofs.HistoryLaws.{store-of, store-remembers}
+use Rattle.store.specs.History.{history, remembered, isPresent, Remembers, store-of}
+use Rattle.store.proofs.HistoryLaws.{store-remembers}
 use Rattle.store.proofs.StoreTheorems.{settings-stay-heard, absent-count}
 use Rattle.store.proofs.SettingsLaws.{settings-back, others}
 use Rattle.pressure.specs.Pressure.{Barometer, barometerIn, barometerOf, stationPressure}
@@ -98,24 +98,27 @@ module _ (g : Settings) (good : checked g ≡ given tt) where
     missing-is : (m : ℕ) → held (store-of g M) .missing m ≡ heard g M .missing m
     missing-is m = absent-count (store-of g M) (g .unit) M 0 m (store-remembers g good M) (lit< tt)
 
+    -- what was heard lies within its channel's limits
+    pub heard-inside : (m c : ℕ) → c < CHANNELS → isPresent (heard g M .recall c m) ≡ true → inside (limitsOf (g .unit) c) (first (heard g M .recall c m)) ≡ true
+    heard-inside m c l there =
+        let block = store-of g M in
+        let is = kept-is m c l in
+        ap (λ (u : BarometerUnit). inside (limitsOf u c) (first (heard g M .recall c m))) (sym (barometer-is .unit))
+        ∙ ap (λ (x : Recall). inside (limitsOf (unitOf block) c) (first x)) (sym is)
+        ∙ first-inside block c m l (ap isPresent is ∙ there)
+
     -- 7 is no answer of such a store
     pub never-foreign : (m : ℕ) → isPresent (heard g M .recall 0 m) ≡ true
         → not (inside recordedPressure (stationAt (heard g M) m) && inside settings.psychrometer (g .psychrometer .0 .v)) ≡ false
     unfolding othersHold
     never-foreign m there =
-        let block = store-of g M in
-        let is = kept-is m 0 (lit< tt) in
-        let limits = first-inside block 0 m (lit< tt) (ap isPresent is ∙ there) in
-        let r = first (heard g M .recall 0 m) in
-        let inside-r : inside (pressureLimits (g .unit)) r ≡ true =
-        ap (λ (u : BarometerUnit). inside (pressureLimits u) r) (sym (barometer-is .unit)) ∙ ap (λ (x : Recall). inside (pressureLimits (unitOf block)) (first x)) (sym is) ∙ limits in
         let h = g .height .0 .v in
         let d = g .difference .0 .v in
         let k = g .coefficient .0 .v in
         let a = g .psychrometer .0 .v in
         let three = inside settings.height h && inside settings.difference d && inside settings.coefficient k in
         let inside-a : inside settings.psychrometer a ≡ true = and-true three (inside settings.psychrometer a) (others g good) .1 in
-        rw (station-recorded g good r inside-r, inside-a)
+        rw (station-recorded g good (first (heard g M .recall 0 m)) (heard-inside m 0 (lit< tt) there), inside-a)
 
     -- ---- the block answers as the messages heard do
 

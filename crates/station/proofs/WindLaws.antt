@@ -14,7 +14,7 @@ use Rattle.store.specs.History.{isPresent}
 use Rattle.wind.specs.Answer.{withinLimits, IsWind}
 use Rattle.wind.specs.declared.TrueWind.{TrueWind}
 use Rattle.station.specs.Source.{first, second}
-use Rattle.station.specs.Told.{Blowing}
+use Rattle.station.specs.Parts.{Blowing}
 use Rattle.station.specs.declared.WindAnswer.{WindAnswer}
 use Rattle.station.proofs.KeptLaws.{first-inside, second-inside}
 

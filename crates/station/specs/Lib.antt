@@ -1,4 +1,5 @@
 pub mod Source
 pub mod Questions
 pub mod Told
+pub mod Parts
 pub mod Feeds

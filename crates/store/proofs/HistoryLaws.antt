@@ -27,7 +27,7 @@ use Rattle.window.proofs.KeptLaws.{absent-kept, length-after, next-after, prese
 use Rattle.store.specs.Layout.{CHANNELS, SETTINGS, WORDS}
 use Rattle.store.specs.Cells.{cellOf, entryIn}
 use Rattle.store.specs.Block.{opened, unitOf, windowOf, isLater, hearing, kept, heardBy, Recall, absent, recalled, recallIn, recallOf}
-use Rattle.store.specs.History.{nextOf, grown, history, lookup, remembered, isPresent, Remembers}
+use Rattle.store.specs.History.{nextOf, grown, history, lookup, remembered, isPresent, Remembers, store-of}
 use Rattle.store.proofs.CellLaws.{Back, received-back}
 use Rattle.store.proofs.BlockLaws.{window-long, replaced-long, here, beside, settings-stay}
 use Rattle.store.proofs.OpenedLaws.{opened-long, opened-unit, opened-next}
@@ -259,11 +259,6 @@ heard-remembers s u M m r = go (received u m) refl
     go (given e) g = by-time e g (leb (nextOf (history u (e .channel) M)) (e .minute)) refl
 
 -- ---- the store
-
--- The block of a station with these settings that then heard the messages M, newest first.
-abbrev pub store-of : Settings → List (List ℕ) → List ℕ
-store-of g [] = opened g
-store-of g (m ∷ M) = heardBy (store-of g M) m
 
 pub store-remembers : (g : Settings) → checked g ≡ given tt → (M : List (List ℕ)) → Remembers (store-of g M) (g .unit) M
 store-remembers g good [] = opened-remembers g good

@@ -4,8 +4,8 @@ use mathlib.Core.Path.{_≡_}
 use mathlib.Core.List.{List}
 use mathlib.Core.Logic.{_↔_}
 use Prim.Native.Nat.{ℕ}
-use Rattle.number.specs.Refusal.{Answer, refused, given, Holds}
-use Rattle.number.proofs.RefusalLaws.{NoneBelow, in-number-order, given-exactly}
+use Rattle.number.specs.Refusal.{Answer, refused, given, Holds, NoneBelow}
+use Rattle.number.proofs.RefusalLaws.{in-number-order, given-exactly}
 use Rattle.store.specs.Block.{entryOfBytes, hearTests, hearing}
 
 pub hearing-refused-exactly : (s m : List ℕ) (n : ℕ) → (hearing s m ≡ refused n) ↔ (Holds (hearTests s m) n × NoneBelow (hearTests s m) n)

@@ -9,10 +9,11 @@ use Rattle.number.specs.Refusal.{Answer, refused, given}
 use Rattle.quantity.specs.declared.BarometerUnit.{BarometerUnit}
 use Rattle.message.specs.Bytes.{channel}
 use Rattle.message.specs.Receive.{Entry, received}
+use Rattle.settings.specs.declared.Settings.{Settings}
 use Rattle.window.specs.Layout.{MINUTES}
 use Rattle.window.specs.Window.{next, present}
 use Rattle.store.specs.Layout.{CHANNELS, WORDS}
-use Rattle.store.specs.Block.{Recall, absent, recalled, unitOf, windowOf, recallOf}
+use Rattle.store.specs.Block.{Recall, absent, recalled, opened, heardBy, unitOf, windowOf, recallOf}
 
 -- The minute after the newest that was accepted; 0 where none was.
 abbrev pub nextOf : List Entry → ℕ
@@ -57,3 +58,8 @@ pub record Remembers (s : List ℕ) (u : BarometerUnit) (M : List (List ℕ)) : 
   pub newest : (c : ℕ) → c < CHANNELS → next (windowOf c s) ≡ nextOf (history u c M)
   pub bits : (c : ℕ) → c < CHANNELS → (j : ℕ) → present (windowOf c s) j ≡ isPresent (remembered (history u c M) j)
   pub cells : (c : ℕ) → c < CHANNELS → (j : ℕ) → recallOf s c j ≡ remembered (history u c M) j
+
+-- The block of a station with these settings that then heard the messages M, newest first.
+abbrev pub store-of : Settings → List (List ℕ) → List ℕ
+store-of g [] = opened g
+store-of g (m ∷ M) = heardBy (store-of g M) m

@@ -1,10 +1,14 @@
 -- Numbers as bytes, "little endian".
 use mathlib.Core.Bool.{cond}
 use mathlib.Core.List.{List, [], _∷_}
-use Prim.Native.Nat.{ℕ, _+_, _*_, _/_, _%_}
+use Prim.Native.Nat.{ℕ, _+_, _*_, _/_, _%_, _<_}
 use lib.Dec.{ltb}
 use lib.IntN.{ℤ, pos, natAbs, _+ℤ_, _-ℤ_}
 use lib.ListN.{getD}
+
+-- Bytes are below 256.
+abbrev pub AreBytes : List ℕ → Type 0
+AreBytes s = (i : ℕ) → getD s i 0 < 256
 
 -- The number in two and in four bytes from a place on.
 abbrev pub le16 : List ℕ → ℕ → ℕ

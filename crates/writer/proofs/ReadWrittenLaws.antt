@@ -14,7 +14,7 @@ use borrow.Author.Tests.{leb-true, eqb-true}
 use Rattle.number.specs.Refusal.{given}
 use Rattle.number.proofs.RefusalLaws.{given-is}
 use Rattle.number.proofs.Sizes.{and-true}
-use Rattle.watchfile.specs.Bytes.{le16, le32, bytes16, bytes32, signed16, unsigned16}
+use Rattle.watchfile.specs.Bytes.{AreBytes, le16, le32, bytes16, bytes32, signed16, unsigned16}
 use Rattle.watchfile.specs.Rules.{kindRight, sizeOf, rank, minuteRight}
 use Rattle.watchfile.specs.Fields.{Field, fieldTests, placed}
 use Rattle.watchfile.specs.Format.{bodyFields, bodyOf, rowFields, headFields, rowsFields, bodiesFields, fields, recordsFrom, records, countOf, startOf, reading, kindOf, bodyBytes, rowBytes, rowsBytes, bodiesBytes, fileOf, bodyRight}
@@ -24,10 +24,6 @@ use Rattle.watchfile.proofs.FieldLaws.{Passed, given-passed}
 use Rattle.writer.proofs.ByteLaws.{bytes16-back, bytes32-back, unsigned-is}
 use Rattle.writer.proofs.RightLaws.{AllRight, by-kind}
 use Rattle.writer.proofs.PassedLaws.{split, unplace}
-
--- Every byte of a file is below 256.
-abbrev pub AreBytes : List ℕ → Type 0
-AreBytes s = (i : ℕ) → getD s i 0 < 256
 
 bytes-drop : (s : List ℕ) (n : ℕ) → AreBytes s → AreBytes (drop n s)
 bytes-drop s n h i = subst (λ (x : ℕ). x < 256) (sym (getD-drop n s i 0)) (h (n + i))

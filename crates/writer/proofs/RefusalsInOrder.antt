@@ -6,14 +6,13 @@ use mathlib.Core.List.{List}
 use Prim.Native.Nat.{ℕ}
 use lib.IntN.{ℤ}
 use lib.ListN.{take}
-use Rattle.number.specs.Refusal.{refused, given, HoldsAt, Holds, Numbered}
-use Rattle.number.proofs.RefusalLaws.{NoneBefore, refused-exactly, given-exactly}
+use Rattle.number.specs.Refusal.{refused, given, Holds, Numbered, First}
+use Rattle.number.proofs.RefusalLaws.{refused-exactly, given-exactly}
 use Rattle.watchfile.specs.Format.{writing, writeTests, fileOf}
 use Rattle.watchfile.specs.declared.Record.{Record}
 
 module _ (rule : ℕ → ℤ) (all : List Record) (count room : ℕ) where
-  pub writes-in-order : (r : Numbered) → (writing rule all count room ≡ refused r)
-      ↔ ((place : ℕ) × HoldsAt (writeTests rule all count room) place r × NoneBefore (writeTests rule all count room) place)
+  pub writes-in-order : (r : Numbered) → (writing rule all count room ≡ refused r) ↔ First (writeTests rule all count room) r
   unfolding writing
   writes-in-order r = refused-exactly (fileOf (take count all)) (writeTests rule all count room) r
 

@@ -10,12 +10,13 @@ use lib.IntN.{ℤ}
 use lib.ListN.{length, take, length-take}
 use borrow.Author.Tests.{ltb-false, le-ltb}
 use Rattle.number.specs.Refusal.{refused, given, answer, Numbered, numbered}
+use Rattle.watchfile.specs.Bytes.{AreBytes}
 use Rattle.watchfile.specs.Format.{DewRule, reading, writing, fileOf}
 use Rattle.watchfile.specs.declared.Record.{Record}
 use Rattle.writer.proofs.RightLaws.{AllRight, right-goes-on, given-right}
 use Rattle.writer.proofs.WriteLaws.{past, short}
 use Rattle.writer.proofs.WrittenReadLaws.{right-read}
-use Rattle.writer.proofs.ReadWrittenLaws.{AreBytes, read-right}
+use Rattle.writer.proofs.ReadWrittenLaws.{read-right}
 
 last-tests : (a b : Bool) (r q : Numbered) (x y : List ℕ) → cond a (refused r) (cond b (refused q) (given x)) ≡ given y → (a ≡ false) × (x ≡ y)
 last-tests true b r q x y e = (cc, cc)

@@ -7,7 +7,7 @@ use lib.Dec.{lit<}
 use lib.IntN.{ℤ}
 use borrow.Author.Tests.{not-true, not-false}
 use Rattle.station.specs.Source.{Source, held, first}
-use Rattle.station.specs.Told.{Reads, Moist}
+use Rattle.station.specs.Parts.{Reads, Moist}
 use Rattle.station.specs.declared.Figures.{Figures}
 use Rattle.station.specs.declared.Figures.the-variants.{NotThere, Both}
 use Rattle.station.specs.declared.HumidityAnswer.{HumidityAnswer}

@@ -6,7 +6,7 @@ use borrow.Author.Tests.{not-true, not-false}
 use Rattle.number.specs.Refusal.{Numbered, Test}
 use Rattle.quantity.specs.Limits.{lastMinute}
 use Rattle.station.specs.Source.{held}
-use Rattle.station.specs.Told.{TellsAt}
+use Rattle.station.specs.Parts.{TellsAt}
 use Rattle.station.specs.declared.AtMinute.{AtMinute}
 use Rattle.station.specs.declared.AtMinute.the-variants.{NotKept, Outside, SeaLevel}
 use Rattle.station.proofs.AnswerLaws.{late, timely, pass, stop}

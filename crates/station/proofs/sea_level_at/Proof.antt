@@ -7,7 +7,7 @@ use lib.Dec.{lit<}
 use lib.IntN.{ℤ}
 use Rattle.store.specs.History.{isPresent}
 use Rattle.station.specs.Source.{held, first, second}
-use Rattle.station.specs.Told.{Reads, Works}
+use Rattle.station.specs.Parts.{Reads, Works}
 use Rattle.station.specs.declared.Figures.the-variants.{NotThere, Both}
 use Rattle.station.proofs.AnswerLaws.{pass, stop}
 use Rattle.station.proofs.KeptLaws.{first-inside}

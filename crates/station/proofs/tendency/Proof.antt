@@ -11,7 +11,7 @@ use Rattle.number.specs.Refusal.{Numbered, Test, Answer}
 use Rattle.pressure.specs.Pressure.{outside}
 use Rattle.station.specs.Source.{Source, held, first}
 use Rattle.station.specs.Questions.{Answers, tooLate, noThreeHours, seaLevelAt, Change, TendencyRule, PressureRule}
-use Rattle.station.specs.Told.{TellsAt}
+use Rattle.station.specs.Parts.{TellsAt}
 use Rattle.station.specs.declared.AtMinute.{AtMinute}
 use Rattle.station.specs.declared.AtMinute.the-variants.{NotKept, Outside, SeaLevel}
 use Rattle.station.proofs.AnswerLaws.{late, timely, pass, stop, end}

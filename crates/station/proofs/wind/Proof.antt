@@ -7,7 +7,7 @@ use lib.IntN.{ℤ, natAbs}
 use borrow.Author.Tests.{not-true, not-false}
 use Rattle.wind.specs.Answer.{withinLimits, IsWind}
 use Rattle.station.specs.Source.{held, first, second}
-use Rattle.station.specs.Told.{Reads, Blowing}
+use Rattle.station.specs.Parts.{Reads, Blowing}
 use Rattle.station.specs.declared.Figures.{Figures}
 use Rattle.station.specs.declared.Figures.the-variants.{NotThere, Both}
 use Rattle.station.proofs.AnswerLaws.{late, timely, pass, stop}

@@ -1,0 +1,3 @@
+pub mod RecordedFigures
+pub mod RecordLaws
+pub mod Proved

@@ -1,0 +1,123 @@
+-- Every answer of a store that was opened makes a record that the watch file takes: the minute is one that may be asked, and the
+-- figures are worked from readings within their limits. Assumes nothing.
+use mathlib.Core.Path.{_≡_, refl, sym, ap, subst, _∙_}
+use mathlib.Core.Bool.{Bool, true, false, not, _&&_, cond}
+use mathlib.Core.List.{List, [], _∷_}
+use Prim.Native.Nat.{ℕ, _+_, _-_, _*_, _≤_, _<_}
+use native.Mathlib.Omega.{arith}
+use lib.Dec.{eqb, leb, ltb, lit<}
+use lib.IntN.{ℤ, natAbs, _-ℤ_}
+use borrow.Author.Tests.{ltb-false, le-leb, lt-ltb, not-false}
+use Rattle.number.specs.Refusal.{given, answer}
+use Rattle.quantity.specs.Limits.{lastMinute, inside, bulb, recordedPressure}
+use Rattle.quantity.specs.declared.MetresPerSecond.{MetresPerSecond}
+use Rattle.quantity.specs.declared.Degrees.{Degrees}
+use Rattle.settings.specs.Settings.{checked}
+use Rattle.settings.specs.Settings as settings
+use Rattle.settings.specs.declared.Settings.{Settings}
+use Rattle.store.specs.History.{history, remembered, isPresent}
+use Rattle.vapour.specs.Vapour.{water, IsTable}
+use Rattle.vapour.proofs.SaturationLaws.{near-one}
+use Rattle.vapour.proofs.TableExists.{the-table}
+use Rattle.wind.specs.declared.TrueWind.the-variants.{Blows}
+use Rattle.humidity.specs.Humidity.{vapourPressure, wetAboveDry, tooDry, withinLimits, IsHumidity, IsMoisture}
+use Rattle.humidity.specs.declared.HumidityFigures.{HumidityFigures}
+use Rattle.humidity.specs.declared.Moisture.the-variants as moisture
+use Rattle.station.specs.Source.{Source, heard, first}
+use Rattle.station.specs.Questions.{Answers, Change, seaLevelAt, pressureTests, PressureRule, tendencyTests, TendencyRule, windTests, WindRule, humidityTests, HumidityRule, dryAt, wetAt, stationAt}
+use Rattle.station.proofs.AnswerLaws.{passed, ruled}
+use Rattle.station.proofs.StoreLaws.{heard-inside, never-foreign}
+use Rattle.watchfile.specs.Rules.{minuteRight, rank}
+use Rattle.watchfile.specs.Format.{DewRule, kept, bodyRight, recordRight}
+use Rattle.watchfile.specs.declared.Body.{Body}
+use Rattle.watchfile.specs.declared.Body.the-variants.{Pressure, Tendency}
+use Rattle.demands.specs.Records.{pressureRecord, tendencyRecord, windRecord, humidityRecord}
+use Rattle.demands.proofs.RecordedFigures.{pressure-taken, tendency-taken, wind-taken, humidity-taken}
+
+both : {a b : Bool} → a ≡ true → b ≡ true → (a && b) ≡ true
+both p q = rw (p, q)
+
+-- a minute that may be asked may be recorded
+minute-right : (m kind : ℕ) → ltb lastMinute m ≡ false → 0 < kind → cond (eqb kind 2) (leb 180 m) true ≡ true → minuteRight 0 kind m ≡ true
+unfolding minuteRight
+minute-right m kind t k h = both (both (le-leb m lastMinute (ltb-false lastMinute m t)) (lt-ltb 0 (rank m kind) (omega arith))) h
+
+module _ (g : Settings) (good : checked g ≡ given tt) (M : List (List ℕ)) (m : ℕ) where
+  abbrev S : Source
+  S = heard g M
+
+  -- ---- pressure
+
+  pub pressure-record : (p : ℤ) → Answers (pressureTests S m) (PressureRule S m) (given p) → (dew : ℕ → ℤ) → recordRight dew 0 (pressureRecord m p) ≡ true
+  pressure-record p w dew =
+      let a = passed _ _ (PressureRule S m) p w in
+      let b = passed _ _ (PressureRule S m) p (a .1) in
+      let c = passed _ _ (PressureRule S m) p (b .1) in
+      let d = passed _ _ (PressureRule S m) p (c .1) in
+      let taken = pressure-taken g good dew (first (S .recall 0 m)) (first (S .recall 1 m)) (heard-inside g good M m 0 (lit< tt) (not-false _ (b .0))) (heard-inside g good M m 1 (lit< tt) (not-false _ (c .0))) in
+      both (minute-right m 1 (a .0) (lit< tt) refl) (subst (λ (z : ℤ). bodyRight dew (Pressure (natAbs z)) ≡ true) (sym (ruled (PressureRule S m) p (d .1))) taken)
+
+  -- ---- tendency
+
+  same-body : (c z : ℤ) (n k : ℕ) → c ≡ z → n ≡ k → _≡_ {A = Body} (Tendency (kept z) k) (Tendency (kept c) n)
+  same-body c z n k p q = cc
+
+  pub tendency-record : (t : Change) → Answers (tendencyTests S m) (TendencyRule S m) (given t) → (dew : ℕ → ℤ) → recordRight dew 0 (tendencyRecord m t) ≡ true
+  tendency-record t w dew =
+      let a = passed _ _ (TendencyRule S m) t w in
+      let b = passed _ _ (TendencyRule S m) t (a .1) in
+      let c = passed _ _ (TendencyRule S m) t (b .1) in
+      let d = passed _ _ (TendencyRule S m) t (c .1) in
+      let e = passed _ _ (TendencyRule S m) t (d .1) in
+      let f = passed _ _ (TendencyRule S m) t (e .1) in
+      let i = passed _ _ (TendencyRule S m) t (f .1) in
+      let j = passed _ _ (TendencyRule S m) t (i .1) in
+      let rule = ruled (TendencyRule S m) t (j .1) in
+      let x = S .recall in
+      let taken = tendency-taken g good dew (first (x 0 m)) (first (x 1 m)) (first (x 0 (m - 180))) (first (x 1 (m - 180))) (λ k. isPresent (remembered (history (g .unit) 0 M) k)) m
+      (heard-inside g good M m 0 (lit< tt) (not-false _ (e .0))) (heard-inside g good M m 1 (lit< tt) (not-false _ (f .0)))
+      (heard-inside g good M (m - 180) 0 (lit< tt) (not-false _ (c .0))) (heard-inside g good M (m - 180) 1 (lit< tt) (not-false _ (d .0))) in
+      both (minute-right m 2 (a .0) (lit< tt) (le-leb 180 m (ltb-false m 180 (b .0))))
+      (subst (λ (y : Body). bodyRight dew y ≡ true) (same-body (t .change) (seaLevelAt S m -ℤ seaLevelAt S (m - 180)) (t .absent) (S .missing m) (rule .change) (rule .absent)) taken)
+
+  -- ---- wind
+
+  pub wind-record : (v : MetresPerSecond) (d : Degrees) → Answers (windTests S m) (WindRule S m) (given (Blows v d)) → (dew : ℕ → ℤ) → recordRight dew 0 (windRecord m v d) ≡ true
+  wind-record v d w dew =
+      let a = passed _ _ (WindRule S m) (Blows v d) w in
+      let b = passed _ _ (WindRule S m) (Blows v d) (a .1) in
+      let c = passed _ _ (WindRule S m) (Blows v d) (b .1) in
+      both (minute-right m 3 (a .0) (lit< tt) refl) (wind-taken dew _ _ _ _ v d (ruled (WindRule S m) (Blows v d) (c .1)))
+
+  -- ---- humidity
+
+  -- figures that no test refused are what the psychrometer's work gives
+  worked : (dry wet p a : ℤ) (h : HumidityFigures) → withinLimits dry wet p a ≡ true → wetAboveDry dry wet ≡ false
+      → (is : IsHumidity dry wet p a h) → tooDry (vapourPressure (is .entry) a p dry wet) ≡ false → IsMoisture dry wet p a (moisture.Given h)
+  unfolding answer
+  worked dry wet p a h l b is e =
+      record { entry = is .entry; near = λ t. is .near; figures = h; first = rw (l, b, e); worked = λ t. is }
+
+  pub humidity-record : (h : HumidityFigures) → ((table : ℤ → ℕ) → IsTable table → Answers (humidityTests [] table S m) (HumidityRule S m) (given h))
+      → (dew : ℕ → ℤ) → DewRule dew → recordRight dew 0 (humidityRecord m h) ≡ true
+  humidity-record h asked dew ruled-dew =
+      let table = the-table .0 in
+      let tabled = the-table .1 in
+      let Rule = HumidityRule S m in
+      let a = passed _ _ Rule h (asked table tabled) in
+      let b = passed _ _ Rule h (a .1) in
+      let c = passed _ _ Rule h (b .1) in
+      let d = passed _ _ Rule h (c .1) in
+      let e = passed _ _ Rule h (d .1) in
+      let f = passed _ _ Rule h (e .1) in
+      let i = passed _ _ Rule h (f .1) in
+      let is = ruled Rule h (i .1) in
+      let in-dry = heard-inside g good M m 4 (lit< tt) (not-false _ (c .0)) in
+      let in-wet = heard-inside g good M m 5 (lit< tt) (not-false _ (d .0)) in
+      let others = not-false _ (never-foreign g good M m (not-false _ (b .0))) in
+      let entry = near-one water (wetAt S m) (is .entry) (table (wetAt S m)) (is .near) (tabled (wetAt S m) in-wet) in
+      let enough : tooDry (vapourPressure (is .entry) (S .psychrometer) (stationAt S m) (dryAt S m) (wetAt S m)) ≡ false =
+      ap (λ (n : ℕ). tooDry (vapourPressure n (S .psychrometer) (stationAt S m) (dryAt S m) (wetAt S m))) entry ∙ i .0 in
+      both (minute-right m 4 (a .0) (lit< tt) refl)
+      (humidity-taken dew ruled-dew (dryAt S m) (wetAt S m) (stationAt S m) (S .psychrometer) h
+      (worked (dryAt S m) (wetAt S m) (stationAt S m) (S .psychrometer) h (both (both in-dry in-wet) others) (f .0) is enough))
