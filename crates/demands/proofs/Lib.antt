@@ -1,3 +1,4 @@
 pub mod RecordedFigures
 pub mod RecordLaws
 pub mod Proved
+pub mod OneAnswerEach

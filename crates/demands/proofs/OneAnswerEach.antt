@@ -1,0 +1,339 @@
+-- Each public contract of every crate allows a single answer, and of lent memory a single state to be left: one theorem, with a line
+-- for each function. Each from the theorem of its own crate. Assumes nothing.
+use Rattle.number.specs.Single.{Single, SingleLeft}
+use Rattle.number.proofs.SingleAnswers as number
+use Rattle.number.proofs.Kept.number.Reads as number-Kept-number
+use Rattle.number.proofs.Number.whole.Reads as number-Number-whole
+use Rattle.number.proofs.Number.signed.Reads as number-Number-signed
+use Rattle.number.proofs.Number.keep.Reads as number-Number-keep
+use Rattle.number.proofs.Number.plus.Reads as number-Number-plus
+use Rattle.number.proofs.Number.minus.Reads as number-Number-minus
+use Rattle.number.proofs.Number.times.Reads as number-Number-times
+use Rattle.number.proofs.Number.is_minus.Reads as number-Number-is-minus
+use Rattle.number.proofs.Number.size.Reads as number-Number-size
+use Rattle.number.proofs.Number.over.Reads as number-Number-over
+use Rattle.number.proofs.Number.at_most.Reads as number-Number-at-most
+use Rattle.number.proofs.Number.within.Reads as number-Number-within
+use Rattle.number.proofs.power.Reads as number-power
+use Rattle.quantity.proofs.SingleAnswers as quantity
+use Rattle.quantity.proofs.BarometerUnit.holds.Reads as quantity-BarometerUnit-holds
+use Rattle.quantity.proofs.Hectopascals.holds.Reads as quantity-Hectopascals-holds
+use Rattle.quantity.proofs.Hectopascals.recorded.Reads as quantity-Hectopascals-recorded
+use Rattle.quantity.proofs.Millimetres.holds.Reads as quantity-Millimetres-holds
+use Rattle.quantity.proofs.WheelhouseTemperature.holds.Reads as quantity-WheelhouseTemperature-holds
+use Rattle.quantity.proofs.BulbTemperature.holds.Reads as quantity-BulbTemperature-holds
+use Rattle.quantity.proofs.MetresPerSecond.holds.Reads as quantity-MetresPerSecond-holds
+use Rattle.quantity.proofs.Knots.holds.Reads as quantity-Knots-holds
+use Rattle.quantity.proofs.Degrees.holds.Reads as quantity-Degrees-holds
+use Rattle.quantity.proofs.Minute.holds.Reads as quantity-Minute-holds
+use Rattle.quantity.proofs.Millimetres.hectopascals.Reads as quantity-Millimetres-hectopascals
+use Rattle.quantity.proofs.MetresPerSecond.parts.Reads as quantity-MetresPerSecond-parts
+use Rattle.quantity.proofs.Knots.parts.Reads as quantity-Knots-parts
+use Rattle.quantity.proofs.Degrees.keep.Reads as quantity-Degrees-keep
+use Rattle.message.proofs.SingleAnswers as message
+use Rattle.message.proofs.decode.Reads as message-decode
+use Rattle.message.proofs.receive.Reads as message-receive
+use Rattle.settings.proofs.SingleAnswers as settings
+use Rattle.settings.proofs.Height.holds.Reads as settings-Height-holds
+use Rattle.settings.proofs.SeaLevelDifference.holds.Reads as settings-SeaLevelDifference-holds
+use Rattle.settings.proofs.TemperatureCoefficient.holds.Reads as settings-TemperatureCoefficient-holds
+use Rattle.settings.proofs.PsychrometerCoefficient.holds.Reads as settings-PsychrometerCoefficient-holds
+use Rattle.settings.proofs.Correction.holds.Reads as settings-Correction-holds
+use Rattle.settings.proofs.check.Reads as settings-check
+use Rattle.window.proofs.SingleAnswers as window
+use Rattle.window.proofs.accept.Reads as window-accept
+use Rattle.window.proofs.find.Reads as window-find
+use Rattle.window.proofs.missed.Reads as window-missed
+use Rattle.store.proofs.SingleAnswers as store
+use Rattle.store.proofs.«open».Reads as store-open
+use Rattle.store.proofs.hear.Reads as store-hear
+use Rattle.store.proofs.unit.Reads as store-unit
+use Rattle.store.proofs.height.Reads as store-height
+use Rattle.store.proofs.difference.Reads as store-difference
+use Rattle.store.proofs.coefficient.Reads as store-coefficient
+use Rattle.store.proofs.psychrometer.Reads as store-psychrometer
+use Rattle.store.proofs.points.Reads as store-points
+use Rattle.store.proofs.point.Reads as store-point
+use Rattle.store.proofs.recall.Reads as store-recall
+use Rattle.store.proofs.missing_minutes.Reads as store-missing-minutes
+use Rattle.pressure.proofs.SingleAnswers as pressure
+use Rattle.pressure.proofs.scale_correction.Reads as pressure-scale-correction
+use Rattle.pressure.proofs.temperature_correction.Reads as pressure-temperature-correction
+use Rattle.pressure.proofs.height_correction.Reads as pressure-height-correction
+use Rattle.pressure.proofs.sea_level_pressure.Reads as pressure-sea-level-pressure
+use Rattle.pressure.proofs.station_pressure.Reads as pressure-station-pressure
+use Rattle.sine.proofs.SingleAnswers as sine
+use Rattle.sine.proofs.entry.Reads as sine-entry
+use Rattle.sine.proofs.sine.Reads as sine-sine
+use Rattle.sine.proofs.cosine.Reads as sine-cosine
+use Rattle.wind.proofs.SingleAnswers as wind
+use Rattle.wind.proofs.true_wind.Reads as wind-true-wind
+use Rattle.vapour.proofs.SingleAnswers as vapour
+use Rattle.vapour.proofs.saturation.Reads as vapour-saturation
+use Rattle.vapour.proofs.dew_point.Reads as vapour-dew-point
+use Rattle.humidity.proofs.SingleAnswers as humidity
+use Rattle.humidity.proofs.humidity.Reads as humidity-humidity
+use Rattle.station.proofs.SingleAnswers as station
+use Rattle.station.proofs.«open».Reads as station-open
+use Rattle.station.proofs.hear.Reads as station-hear
+use Rattle.station.proofs.pressure.Reads as station-pressure
+use Rattle.station.proofs.tendency.Reads as station-tendency
+use Rattle.station.proofs.wind.Reads as station-wind
+use Rattle.station.proofs.humidity.Reads as station-humidity
+use Rattle.watchfile.proofs.SingleAnswers as watchfile
+use Rattle.watchfile.proofs.Body.kind.Reads as watchfile-Body-kind
+use Rattle.watchfile.proofs.size_of.Reads as watchfile-size-of
+use Rattle.watchfile.proofs.rank.Reads as watchfile-rank
+use Rattle.watchfile.proofs.kind_right.Reads as watchfile-kind-right
+use Rattle.watchfile.proofs.minute_right.Reads as watchfile-minute-right
+use Rattle.watchfile.proofs.pressure_right.Reads as watchfile-pressure-right
+use Rattle.watchfile.proofs.change_right.Reads as watchfile-change-right
+use Rattle.watchfile.proofs.absent_right.Reads as watchfile-absent-right
+use Rattle.watchfile.proofs.speed_right.Reads as watchfile-speed-right
+use Rattle.watchfile.proofs.direction_right.Reads as watchfile-direction-right
+use Rattle.watchfile.proofs.e_right.Reads as watchfile-e-right
+use Rattle.watchfile.proofs.saturation_right.Reads as watchfile-saturation-right
+use Rattle.watchfile.proofs.deficit_right.Reads as watchfile-deficit-right
+use Rattle.watchfile.proofs.relative_right.Reads as watchfile-relative-right
+use Rattle.watchfile.proofs.dew_right.Reads as watchfile-dew-right
+use Rattle.watchfile.proofs.body_right.Reads as watchfile-body-right
+use Rattle.watchfile.proofs.record_right.Reads as watchfile-record-right
+use Rattle.reader.proofs.SingleAnswers as reader
+use Rattle.reader.proofs.read.Reads as reader-read
+use Rattle.writer.proofs.SingleAnswers as writer
+use Rattle.writer.proofs.write.Reads as writer-write
+use Rattle.text.proofs.SingleAnswers as text
+use Rattle.text.proofs.put_byte.Reads as text-put-byte
+use Rattle.text.proofs.put_natural.Reads as text-put-natural
+use Rattle.text.proofs.put_number.Reads as text-put-number
+use Rattle.text.proofs.put_bytes.Reads as text-put-bytes
+use Rattle.listing.proofs.SingleAnswers as listing
+use Rattle.listing.proofs.list.Reads as listing-list
+
+pub record OneAnswerEach : Type 0 where
+  -- number
+  pub number-Kept-number-single : Single number-Kept-number.Post
+  pub number-Number-whole-single : Single number-Number-whole.Post
+  pub number-Number-signed-single : Single number-Number-signed.Post
+  pub number-Number-keep-single : Single number-Number-keep.Post
+  pub number-Number-plus-single : Single number-Number-plus.Post
+  pub number-Number-minus-single : Single number-Number-minus.Post
+  pub number-Number-times-single : Single number-Number-times.Post
+  pub number-Number-is-minus-single : Single number-Number-is-minus.Post
+  pub number-Number-size-single : Single number-Number-size.Post
+  pub number-Number-over-single : Single number-Number-over.Post
+  pub number-Number-at-most-single : Single number-Number-at-most.Post
+  pub number-Number-within-single : Single number-Number-within.Post
+  pub number-power-single : Single number-power.Post
+  -- quantity
+  pub quantity-BarometerUnit-holds-single : Single quantity-BarometerUnit-holds.Post
+  pub quantity-Hectopascals-holds-single : Single quantity-Hectopascals-holds.Post
+  pub quantity-Hectopascals-recorded-single : Single quantity-Hectopascals-recorded.Post
+  pub quantity-Millimetres-holds-single : Single quantity-Millimetres-holds.Post
+  pub quantity-WheelhouseTemperature-holds-single : Single quantity-WheelhouseTemperature-holds.Post
+  pub quantity-BulbTemperature-holds-single : Single quantity-BulbTemperature-holds.Post
+  pub quantity-MetresPerSecond-holds-single : Single quantity-MetresPerSecond-holds.Post
+  pub quantity-Knots-holds-single : Single quantity-Knots-holds.Post
+  pub quantity-Degrees-holds-single : Single quantity-Degrees-holds.Post
+  pub quantity-Minute-holds-single : Single quantity-Minute-holds.Post
+  pub quantity-Millimetres-hectopascals-single : Single quantity-Millimetres-hectopascals.Post
+  pub quantity-MetresPerSecond-parts-single : Single quantity-MetresPerSecond-parts.Post
+  pub quantity-Knots-parts-single : Single quantity-Knots-parts.Post
+  pub quantity-Degrees-keep-single : Single quantity-Degrees-keep.Post
+  -- message
+  pub message-decode-single : Single message-decode.Post
+  pub message-receive-single : Single message-receive.Post
+  -- settings
+  pub settings-Height-holds-single : Single settings-Height-holds.Post
+  pub settings-SeaLevelDifference-holds-single : Single settings-SeaLevelDifference-holds.Post
+  pub settings-TemperatureCoefficient-holds-single : Single settings-TemperatureCoefficient-holds.Post
+  pub settings-PsychrometerCoefficient-holds-single : Single settings-PsychrometerCoefficient-holds.Post
+  pub settings-Correction-holds-single : Single settings-Correction-holds.Post
+  pub settings-check-single : Single settings-check.Post
+  -- window
+  pub window-accept-single : Single window-accept.Post
+  pub window-accept-left : SingleLeft window-accept.Post (λ κs s. s .0 .now)
+  pub window-find-single : Single window-find.Post
+  pub window-missed-single : Single window-missed.Post
+  -- store
+  pub store-open-single : Single store-open.Post
+  pub store-open-left : SingleLeft store-open.Post (λ κs s. s .0 .now)
+  pub store-hear-single : Single store-hear.Post
+  pub store-hear-left : SingleLeft store-hear.Post (λ κs s. s .0 .now)
+  pub store-unit-single : Single store-unit.Post
+  pub store-height-single : Single store-height.Post
+  pub store-difference-single : Single store-difference.Post
+  pub store-coefficient-single : Single store-coefficient.Post
+  pub store-psychrometer-single : Single store-psychrometer.Post
+  pub store-points-single : Single store-points.Post
+  pub store-point-single : Single store-point.Post
+  pub store-recall-single : Single store-recall.Post
+  pub store-missing-minutes-single : Single store-missing-minutes.Post
+  -- pressure
+  pub pressure-scale-correction-single : Single pressure-scale-correction.Post
+  pub pressure-temperature-correction-single : Single pressure-temperature-correction.Post
+  pub pressure-height-correction-single : Single pressure-height-correction.Post
+  pub pressure-sea-level-pressure-single : Single pressure-sea-level-pressure.Post
+  pub pressure-station-pressure-single : Single pressure-station-pressure.Post
+  -- sine
+  pub sine-entry-single : Single sine-entry.Post
+  pub sine-sine-single : Single sine-sine.Post
+  pub sine-cosine-single : Single sine-cosine.Post
+  -- wind
+  pub wind-true-wind-single : Single wind-true-wind.Post
+  -- vapour
+  pub vapour-saturation-single : Single vapour-saturation.Post
+  pub vapour-dew-point-single : Single vapour-dew-point.Post
+  -- humidity
+  pub humidity-humidity-single : Single humidity-humidity.Post
+  -- station
+  pub station-open-single : Single station-open.Post
+  pub station-open-left : SingleLeft station-open.Post (λ κs s. s .0 .now)
+  pub station-hear-single : Single station-hear.Post
+  pub station-hear-left : SingleLeft station-hear.Post (λ κs s. s .0 .now)
+  pub station-pressure-single : Single station-pressure.Post
+  pub station-tendency-single : Single station-tendency.Post
+  pub station-wind-single : Single station-wind.Post
+  pub station-humidity-single : Single station-humidity.Post
+  -- watchfile
+  pub watchfile-Body-kind-single : Single watchfile-Body-kind.Post
+  pub watchfile-size-of-single : Single watchfile-size-of.Post
+  pub watchfile-rank-single : Single watchfile-rank.Post
+  pub watchfile-kind-right-single : Single watchfile-kind-right.Post
+  pub watchfile-minute-right-single : Single watchfile-minute-right.Post
+  pub watchfile-pressure-right-single : Single watchfile-pressure-right.Post
+  pub watchfile-change-right-single : Single watchfile-change-right.Post
+  pub watchfile-absent-right-single : Single watchfile-absent-right.Post
+  pub watchfile-speed-right-single : Single watchfile-speed-right.Post
+  pub watchfile-direction-right-single : Single watchfile-direction-right.Post
+  pub watchfile-e-right-single : Single watchfile-e-right.Post
+  pub watchfile-saturation-right-single : Single watchfile-saturation-right.Post
+  pub watchfile-deficit-right-single : Single watchfile-deficit-right.Post
+  pub watchfile-relative-right-single : Single watchfile-relative-right.Post
+  pub watchfile-dew-right-single : Single watchfile-dew-right.Post
+  pub watchfile-body-right-single : Single watchfile-body-right.Post
+  pub watchfile-record-right-single : Single watchfile-record-right.Post
+  -- reader
+  pub reader-read-single : Single reader-read.Post
+  -- writer
+  pub writer-write-single : Single writer-write.Post
+  pub writer-write-left : SingleLeft writer-write.Post (λ κs s. s .0 .now)
+  -- text
+  pub text-put-byte-single : Single text-put-byte.Post
+  pub text-put-byte-left : SingleLeft text-put-byte.Post (λ κs s. s .0 .now)
+  pub text-put-natural-single : Single text-put-natural.Post
+  pub text-put-natural-left : SingleLeft text-put-natural.Post (λ κs s. s .0 .now)
+  pub text-put-number-single : Single text-put-number.Post
+  pub text-put-number-left : SingleLeft text-put-number.Post (λ κs s. s .0 .now)
+  pub text-put-bytes-single : Single text-put-bytes.Post
+  pub text-put-bytes-left : SingleLeft text-put-bytes.Post (λ κs s. s .0 .now)
+  -- listing
+  pub listing-list-single : Single listing-list.Post
+  pub listing-list-left : SingleLeft listing-list.Post (λ κs s. s .1 .0 .now)
+
+pub one-answer-each : OneAnswerEach
+one-answer-each =
+    record {
+      number-Kept-number-single = number.single-kept-number;
+      number-Number-whole-single = number.single-whole;
+      number-Number-signed-single = number.single-signed;
+      number-Number-keep-single = number.single-keep;
+      number-Number-plus-single = number.single-plus;
+      number-Number-minus-single = number.single-minus;
+      number-Number-times-single = number.single-times;
+      number-Number-is-minus-single = number.single-is-minus;
+      number-Number-size-single = number.single-size;
+      number-Number-over-single = number.single-over;
+      number-Number-at-most-single = number.single-at-most;
+      number-Number-within-single = number.single-within;
+      number-power-single = number.single-power;
+      quantity-BarometerUnit-holds-single = quantity.single-barometer-unit;
+      quantity-Hectopascals-holds-single = quantity.single-hectopascals;
+      quantity-Hectopascals-recorded-single = quantity.single-recorded;
+      quantity-Millimetres-holds-single = quantity.single-millimetres;
+      quantity-WheelhouseTemperature-holds-single = quantity.single-wheelhouse-temperature;
+      quantity-BulbTemperature-holds-single = quantity.single-bulb-temperature;
+      quantity-MetresPerSecond-holds-single = quantity.single-metres-per-second;
+      quantity-Knots-holds-single = quantity.single-knots;
+      quantity-Degrees-holds-single = quantity.single-degrees;
+      quantity-Minute-holds-single = quantity.single-minute;
+      quantity-Millimetres-hectopascals-single = quantity.single-in-hectopascals;
+      quantity-MetresPerSecond-parts-single = quantity.single-metres-parts;
+      quantity-Knots-parts-single = quantity.single-knots-parts;
+      quantity-Degrees-keep-single = quantity.single-degrees-keep;
+      message-decode-single = message.single-decode;
+      message-receive-single = message.single-receive;
+      settings-Height-holds-single = settings.single-height;
+      settings-SeaLevelDifference-holds-single = settings.single-difference;
+      settings-TemperatureCoefficient-holds-single = settings.single-coefficient;
+      settings-PsychrometerCoefficient-holds-single = settings.single-psychrometer;
+      settings-Correction-holds-single = settings.single-correction;
+      settings-check-single = settings.single-check;
+      window-accept-single = window.single-accept;
+      window-accept-left = window.single-accept-words;
+      window-find-single = window.single-find;
+      window-missed-single = window.single-missed;
+      store-open-single = store.single-open;
+      store-open-left = store.single-open-left;
+      store-hear-single = store.single-hear;
+      store-hear-left = store.single-hear-left;
+      store-unit-single = store.single-unit;
+      store-height-single = store.single-height;
+      store-difference-single = store.single-difference;
+      store-coefficient-single = store.single-coefficient;
+      store-psychrometer-single = store.single-psychrometer;
+      store-points-single = store.single-points;
+      store-point-single = store.single-point;
+      store-recall-single = store.single-recall;
+      store-missing-minutes-single = store.single-missing-minutes;
+      pressure-scale-correction-single = pressure.single-scale-correction;
+      pressure-temperature-correction-single = pressure.single-temperature-correction;
+      pressure-height-correction-single = pressure.single-height-correction;
+      pressure-sea-level-pressure-single = pressure.single-sea-level-pressure;
+      pressure-station-pressure-single = pressure.single-station-pressure;
+      sine-entry-single = sine.single-entry;
+      sine-sine-single = sine.single-sine;
+      sine-cosine-single = sine.single-cosine;
+      wind-true-wind-single = wind.single-true-wind;
+      vapour-saturation-single = vapour.single-saturation;
+      vapour-dew-point-single = vapour.single-dew-point;
+      humidity-humidity-single = humidity.single-humidity;
+      station-open-single = station.single-open;
+      station-open-left = station.single-open-left;
+      station-hear-single = station.single-hear;
+      station-hear-left = station.single-hear-left;
+      station-pressure-single = station.single-pressure;
+      station-tendency-single = station.single-tendency;
+      station-wind-single = station.single-wind-answer;
+      station-humidity-single = station.single-humidity;
+      watchfile-Body-kind-single = watchfile.single-kind;
+      watchfile-size-of-single = watchfile.single-size-of;
+      watchfile-rank-single = watchfile.single-rank;
+      watchfile-kind-right-single = watchfile.single-kind-right;
+      watchfile-minute-right-single = watchfile.single-minute-right;
+      watchfile-pressure-right-single = watchfile.single-pressure-right;
+      watchfile-change-right-single = watchfile.single-change-right;
+      watchfile-absent-right-single = watchfile.single-absent-right;
+      watchfile-speed-right-single = watchfile.single-speed-right;
+      watchfile-direction-right-single = watchfile.single-direction-right;
+      watchfile-e-right-single = watchfile.single-e-right;
+      watchfile-saturation-right-single = watchfile.single-saturation-right;
+      watchfile-deficit-right-single = watchfile.single-deficit-right;
+      watchfile-relative-right-single = watchfile.single-relative-right;
+      watchfile-dew-right-single = watchfile.single-dew-right;
+      watchfile-body-right-single = watchfile.single-body-right;
+      watchfile-record-right-single = watchfile.single-record-right;
+      reader-read-single = reader.single-read;
+      writer-write-single = writer.single-write;
+      writer-write-left = writer.single-write-bytes;
+      text-put-byte-single = text.single-put-byte;
+      text-put-byte-left = text.single-put-byte-text;
+      text-put-natural-single = text.single-put-natural;
+      text-put-natural-left = text.single-put-natural-text;
+      text-put-number-single = text.single-put-number;
+      text-put-number-left = text.single-put-number-text;
+      text-put-bytes-single = text.single-put-bytes;
+      text-put-bytes-left = text.single-put-bytes-text;
+      listing-list-single = listing.single-list;
+      listing-list-left = listing.single-list-text;
+    }
