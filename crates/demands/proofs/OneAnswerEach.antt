@@ -109,6 +109,9 @@ use Rattle.text.proofs.put_number.Reads as text-put-number
 use Rattle.text.proofs.put_bytes.Reads as text-put-bytes
 use Rattle.listing.proofs.SingleAnswers as listing
 use Rattle.listing.proofs.list.Reads as listing-list
+use Rattle.zhitomrak.proofs.SingleAnswers as zhitomrak
+use Rattle.zhitomrak.proofs.zhitomrak_hear.Reads as zhitomrak-zhitomrak-hear
+use Rattle.zhitomrak.proofs.zhitomrak_missing_minutes.Reads as zhitomrak-zhitomrak-missing-minutes
 
 pub record OneAnswerEach : Type 0 where
   -- number
@@ -230,6 +233,10 @@ pub record OneAnswerEach : Type 0 where
   -- listing
   pub listing-list-single : Single listing-list.Post
   pub listing-list-left : SingleLeft listing-list.Post (λ κs s. s .1 .0 .now)
+  -- zhitomrak
+  pub zhitomrak-zhitomrak-hear-single : Single zhitomrak-zhitomrak-hear.Post
+  pub zhitomrak-zhitomrak-hear-left : SingleLeft zhitomrak-zhitomrak-hear.Post (λ κs s. s .0 .now)
+  pub zhitomrak-zhitomrak-missing-minutes-single : Single zhitomrak-zhitomrak-missing-minutes.Post
 
 pub one-answer-each : OneAnswerEach
 one-answer-each =
@@ -336,4 +343,7 @@ one-answer-each =
       text-put-bytes-left = text.single-put-bytes-text;
       listing-list-single = listing.single-list;
       listing-list-left = listing.single-list-text;
+      zhitomrak-zhitomrak-hear-single = zhitomrak.single-hear;
+      zhitomrak-zhitomrak-hear-left = zhitomrak.single-hear-left;
+      zhitomrak-zhitomrak-missing-minutes-single = zhitomrak.single-missing-minutes;
     }
