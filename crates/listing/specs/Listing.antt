@@ -4,27 +4,15 @@ use mathlib.Core.Bool.{cond}
 use mathlib.Core.List.{List, [], _∷_, _++_}
 use Prim.Native.Nat.{ℕ, _+_, _*_}
 use lib.Dec.{ltb}
-use lib.IntN.{ℤ}
 use lib.ListN.{length, drop}
 use Rattle.number.specs.Refusal.{Answer, refused, given}
 use Rattle.text.specs.Letters.{letters}
-use Rattle.text.specs.Text.{decimal, decimalOf}
+use Rattle.text.specs.Text.{field, fieldOf, end}
 use Rattle.watchfile.specs.declared.Body.{Body}
 use Rattle.watchfile.specs.declared.Body.the-variants.{Pressure, Tendency, Wind, Humidity}
 use Rattle.watchfile.specs.declared.Record.{Record}
 use Rattle.listing.specs.declared.Listed.{Listed}
 use Rattle.listing.specs.declared.Listed.the-variants.{Text, TooShort}
-
--- A field of a line: a number behind a space.
-abbrev pub field : ℕ → List ℕ
-field n = letters " " ++ decimal n
-
-abbrev pub fieldOf : ℤ → List ℕ
-fieldOf z = letters " " ++ decimalOf z
-
--- "Each line ends with byte 0A."
-abbrev pub end : List ℕ
-end = letters "\n"
 
 -- "kind letter P, T, W or H"
 abbrev pub letter : Body → List ℕ

@@ -4,8 +4,8 @@ ghost use mathlib.Core.List.{[], _∷_, _++_};
 ghost use Prim.Native.Nat.{ℕ, _≤_};
 ghost use lib.IntN.{ℤ};
 ghost use lib.ListN.{length, take};
-ghost use Rattle.text.specs.Text.{Put};
-ghost use Rattle.listing.specs.Listing.{field, fieldOf, letter, bodyText, recordLine, recordLines, headLine, refusedLine, listingOf, Lists};
+ghost use Rattle.text.specs.Text.{field, fieldOf, Put};
+ghost use Rattle.listing.specs.Listing.{letter, bodyText, recordLine, recordLines, headLine, refusedLine, listingOf, Lists};
 ghost use Rattle.watchfile.specs.Format.{DewRule, reading};
 use number::Kept;
 use reader::Verdict;
@@ -25,36 +25,20 @@ const LINE: usize = 1 + 11 + 3 * 6 + 4 + 12 + 1;
 // The bytes of the longest listing: `WT 1 48` with its end, and 48 lines.
 pub const TEXT: usize = 8 + RECORDS * LINE;
 
-// Puts a number behind a space. As all of these it gives the place behind what it put.
-fn put_field(text: &mut [u8], at: usize, n: u64) -> usize
-    ensures { λ r. ⌜ Put (now (text .entry)) (now (text .exit)) at (field n) r ⌝ }
-{
-    let behind = text::put_byte(text, at, b' ');
-    text::put_natural(text, behind, n)
-}
-
-// Puts a number with a sign behind a space.
-fn put_signed(text: &mut [u8], at: usize, n: Kept) -> usize
-    ensures { λ r. ⌜ Put (now (text .entry)) (now (text .exit)) at (fieldOf (n .v)) r ⌝ }
-{
-    let behind = text::put_byte(text, at, b' ');
-    text::put_number(text, behind, n.number())
-}
-
-// Puts the fields of a tendency.
+// Puts the fields of a tendency. As all of these it gives the place behind what it put.
 fn put_tendency(text: &mut [u8], at: usize, change: Kept, absent: u8) -> usize
     ensures { λ r. ⌜ Put (now (text .entry)) (now (text .exit)) at (fieldOf (change .v) ++ field absent) r ⌝ }
 {
-    let behind = put_signed(text, at, change);
-    put_field(text, behind, absent as u64)
+    let behind = text::put_signed(text, at, change.number());
+    text::put_field(text, behind, absent as u64)
 }
 
 // Puts two fields.
 fn put_pair(text: &mut [u8], at: usize, first: u16, second: u16) -> usize
     ensures { λ r. ⌜ Put (now (text .entry)) (now (text .exit)) at (field first ++ field second) r ⌝ }
 {
-    let behind = put_field(text, at, first as u64);
-    put_field(text, behind, second as u64)
+    let behind = text::put_field(text, at, first as u64);
+    text::put_field(text, behind, second as u64)
 }
 
 // Puts the fields of a humidity.
@@ -69,11 +53,11 @@ fn put_humidity(
 ) -> usize
     ensures { λ r. ⌜ Put (now (text .entry)) (now (text .exit)) at (field e ++ (field saturation ++ (field deficit ++ (field relative ++ fieldOf (dew .v))))) r ⌝ }
 {
-    let second = put_field(text, at, e as u64);
-    let third = put_field(text, second, saturation as u64);
-    let fourth = put_field(text, third, deficit as u64);
-    let fifth = put_field(text, fourth, relative as u64);
-    put_signed(text, fifth, dew)
+    let second = text::put_field(text, at, e as u64);
+    let third = text::put_field(text, second, saturation as u64);
+    let fourth = text::put_field(text, third, deficit as u64);
+    let fifth = text::put_field(text, fourth, relative as u64);
+    text::put_signed(text, fifth, dew.number())
 }
 
 // The letter of a body's kind.
@@ -105,7 +89,7 @@ fn put_body(text: &mut [u8], at: usize, body: Body) -> usize
     ensures { λ r. ⌜ Put (now (text .entry)) (now (text .exit)) at (bodyText body) r ⌝ }
 {
     match body {
-        Body::Pressure(p) => put_field(text, at, p as u64),
+        Body::Pressure(p) => text::put_field(text, at, p as u64),
         Body::Tendency { change, absent } => put_tendency(text, at, change, absent),
         Body::Wind { speed, direction } => put_pair(text, at, speed, direction),
         Body::Humidity {
@@ -124,7 +108,7 @@ fn put_record(text: &mut [u8], at: usize, r: Record) -> usize
 {
     let body = r.body;
     let minute = text::put_byte(text, at, letter(body));
-    let fields = put_field(text, minute, r.minute as u64);
+    let fields = text::put_field(text, minute, r.minute as u64);
     let end = put_body(text, fields, body);
     text::put_byte(text, end, b'\n')
 }
@@ -148,7 +132,7 @@ fn put_head(text: &mut [u8], count: usize) -> usize
     ensures { λ r. ⌜ Put (now (text .entry)) (now (text .exit)) 0 (headLine count) r ⌝ }
 {
     let label = text::put_bytes(text, 0, b"WT 1");
-    let number = put_field(text, label, count as u64);
+    let number = text::put_field(text, label, count as u64);
     text::put_byte(text, number, b'\n')
 }
 
@@ -157,7 +141,7 @@ fn put_refusal(text: &mut [u8], place: usize) -> usize
     ensures { λ r. ⌜ Put (now (text .entry)) (now (text .exit)) 0 (refusedLine place) r ⌝ }
 {
     let words = text::put_bytes(text, 0, b"refused 18 at");
-    let number = put_field(text, words, place as u64);
+    let number = text::put_field(text, words, place as u64);
     text::put_byte(text, number, b'\n')
 }
 

@@ -8,11 +8,13 @@ ghost use Rattle.number.specs.Round.{rounded};
 ghost use Rattle.number.specs.Whole.{signed, within, Is};
 
 // A number to compute with.
+#[repr(C)]
 pub struct Number {
     pub v: i64,
 }
 
 // A number as it is kept.
+#[repr(C)]
 pub struct Kept {
     pub v: i32,
 }

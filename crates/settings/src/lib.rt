@@ -13,21 +13,27 @@ use quantity::BarometerUnit;
 pub const POINTS: usize = 16;
 
 // The height of the barometer, in tenths of a metre.
+#[repr(C)]
 pub struct Height(pub Kept);
 
 // How much the sea lies higher than the ocean, in tenths of a metre: negative when the closed sea lies lower.
+#[repr(C)]
 pub struct SeaLevelDifference(pub Kept);
 
 // The barometer's temperature coefficient, in thousandths of its unit per °C.
+#[repr(C)]
 pub struct TemperatureCoefficient(pub Kept);
 
 // The psychrometer's coefficient A, in millionths.
+#[repr(C)]
 pub struct PsychrometerCoefficient(pub Kept);
 
 // A correction of a certificate, in tenths of the barometer's unit.
+#[repr(C)]
 pub struct Correction(pub Kept);
 
 // A point of a certificate: a reading in tenths of the barometer's unit, and its correction.
+#[repr(C)]
 pub struct Point {
     pub reading: Kept,
     pub correction: Correction,

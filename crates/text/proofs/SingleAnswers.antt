@@ -6,6 +6,8 @@ use Rattle.text.proofs.put_byte.Reads as put-byte
 use Rattle.text.proofs.put_natural.Reads as put-natural
 use Rattle.text.proofs.put_number.Reads as put-number
 use Rattle.text.proofs.put_bytes.Reads as put-bytes
+use Rattle.text.proofs.put_field.Reads as put-field
+use Rattle.text.proofs.put_signed.Reads as put-signed
 
 pub single-put-byte : Single put-byte.Post
 single-put-byte κs a r r′ s s′ p q = p .next ∙ sym (q .next)
@@ -31,3 +33,15 @@ single-put-bytes κs a r r′ s s′ p q = p .next ∙ sym (q .next)
 
 pub single-put-bytes-text : SingleLeft put-bytes.Post (λ κs s. s .0 .now)
 single-put-bytes-text κs a r r′ s s′ p q = p .laid ∙ sym (q .laid)
+
+pub single-put-field : Single put-field.Post
+single-put-field κs a r r′ s s′ p q = p .next ∙ sym (q .next)
+
+pub single-put-field-text : SingleLeft put-field.Post (λ κs s. s .0 .now)
+single-put-field-text κs a r r′ s s′ p q = p .laid ∙ sym (q .laid)
+
+pub single-put-signed : Single put-signed.Post
+single-put-signed κs a r r′ s s′ p q = p .next ∙ sym (q .next)
+
+pub single-put-signed-text : SingleLeft put-signed.Post (λ κs s. s .0 .now)
+single-put-signed-text κs a r r′ s s′ p q = p .laid ∙ sym (q .laid)

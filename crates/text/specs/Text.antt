@@ -1,4 +1,4 @@
--- Numbers as text, and text laid into a lent buffer.
+-- Numbers as text, fields and ends of lines, and text laid into a lent buffer.
 use mathlib.Core.Path.{_≡_}
 use mathlib.Core.Bool.{cond}
 use mathlib.Core.List.{List, [], _∷_, _++_}
@@ -31,6 +31,17 @@ said n (x ∷ xs) = said (10 * n + (x - 48)) xs
 unfoldable pub decimalOf : ℤ → List ℕ
 decimalOf (pos n) = decimal n
 decimalOf (negsuc n) = letters "-" ++ decimal (suc n)
+
+-- A field of a line: a number behind a space.
+abbrev pub field : ℕ → List ℕ
+field n = letters " " ++ decimal n
+
+abbrev pub fieldOf : ℤ → List ℕ
+fieldOf z = letters " " ++ decimalOf z
+
+-- "Each line ends with byte 0A."
+abbrev pub end : List ℕ
+end = letters "\n"
 
 -- A buffer in which a text is laid, byte by byte, from a place on: as far as the buffer reaches, what lies beyond is cut off.
 unfoldable pub put : List ℕ → ℕ → List ℕ → List ℕ

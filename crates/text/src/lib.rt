@@ -3,7 +3,7 @@
 ghost use mathlib.Core.List.{[], _∷_};
 ghost use Prim.Native.Nat.{_%_, min};
 ghost use mathlib.Core.Path.{_≡_};
-ghost use Rattle.text.specs.Text.{digit, decimal, decimalOf, Put};
+ghost use Rattle.text.specs.Text.{digit, decimal, decimalOf, field, fieldOf, Put};
 use number::Number;
 
 fn smaller(a: usize, b: usize) -> usize
@@ -65,4 +65,20 @@ pub fn put_bytes(text: &mut [u8], at: usize, bytes: &[u8]) -> usize
         i += 1;
     }
     smaller(place, text.len())
+}
+
+// Puts a number behind a space. The place behind it.
+pub fn put_field(text: &mut [u8], at: usize, n: u64) -> usize
+    ensures { λ r. ⌜ Put (now (text .entry)) (now (text .exit)) at (field n) r ⌝ }
+{
+    let digits = put_byte(text, at, b' ');
+    put_natural(text, digits, n)
+}
+
+// Puts a number with its sign behind a space. The place behind it.
+pub fn put_signed(text: &mut [u8], at: usize, n: Number) -> usize
+    ensures { λ r. ⌜ Put (now (text .entry)) (now (text .exit)) at (fieldOf (n .v)) r ⌝ }
+{
+    let number = put_byte(text, at, b' ');
+    put_number(text, number, n)
 }

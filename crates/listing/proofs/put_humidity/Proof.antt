@@ -16,6 +16,9 @@ put-field-requires-3 c κs = search needs
 put-field-requires-4 : tie.Need-put-field-requires-4
 put-field-requires-4 c κs = search needs
 
+number-requires : tie.Need-number-requires
+number-requires c κs = search needs
+
 put-signed-requires : tie.Need-put-signed-requires
 put-signed-requires c κs = search needs
 
@@ -24,8 +27,9 @@ same-length c = search needs
 
 returns : tie.Need-returns
 returns c =
-    join (c .before .before .before .before .before .before .before .before .before .before .before .before .before .before .before .before .before .before .put-field .ensures) (join (c .before .before .before .before .before .before .before .before .before .before .before .before .before .before .put-field2 .ensures)
-    (join (c .before .before .before .before .before .before .before .before .before .before .put-field3 .ensures) (join (c .before .before .before .before .before .before .put-field4 .ensures) (c .before .before .put-signed .ensures))))
+    rw (← c .before .before .before .number .ensures .value)
+    (join (c .before .before .before .before .before .before .before .before .before .before .before .before .before .before .before .before .before .before .before .put-field .ensures) (join (c .before .before .before .before .before .before .before .before .before .before .before .before .before .before .before .put-field2 .ensures)
+    (join (c .before .before .before .before .before .before .before .before .before .before .before .put-field3 .ensures) (join (c .before .before .before .before .before .before .before .put-field4 .ensures) (c .before .before .put-signed .ensures)))))
 
 pub put-humidity-spec : {M : Type 1} → statement M
 put-humidity-spec =
@@ -35,6 +39,7 @@ put-humidity-spec =
     put-field-requires-2
     put-field-requires-3
     put-field-requires-4
+    number-requires
     put-signed-requires
     same-length
     returns)

@@ -1,0 +1,4 @@
+pub mod RowLaws
+pub mod HexLaws
+pub mod SingleAnswers
+pub mod Worked

@@ -1,0 +1,281 @@
+// The station's answers as lines of text in a lent buffer. Each function puts one line at a place and gives the place behind it;
+// what would lie beyond the buffer's end is cut off.
+ghost use mathlib.Core.Path.{_≡_};
+ghost use mathlib.Core.List.{[], _∷_, _++_};
+ghost use Prim.Native.Nat.{_<_, _≤_};
+ghost use lib.ListN.{length};
+ghost use Rattle.message.specs.Decode.{numberOf};
+ghost use Rattle.station.specs.Told.{refusalOf};
+ghost use Rattle.station.specs.declared.PressureAnswer.the-variants as pressure;
+ghost use Rattle.station.specs.declared.TendencyAnswer.the-variants as tendency;
+ghost use Rattle.station.specs.declared.WindAnswer.the-variants as wind;
+ghost use Rattle.station.specs.declared.HumidityAnswer.the-variants as humidity;
+ghost use Rattle.text.specs.Letters.{letters};
+ghost use Rattle.text.specs.Text.{field, end, Put};
+ghost use Rattle.answer.specs.Hex.{digit16, hexOf, hex};
+ghost use Rattle.answer.specs.Answer.{fields, refusedLine, openingLine, hearingLine, pressureLine, tendencyLine, windLine, humidityFields, humidityLine, fileLine, writtenLine};
+use humidity::HumidityFigures;
+use message::MessageRefusal;
+use quantity::Degrees;
+use quantity::Hectopascals;
+use quantity::MetresPerSecond;
+use settings::Checked;
+use station::HumidityAnswer;
+use station::PressureAnswer;
+use station::QuestionRefusal;
+use station::TendencyAnswer;
+use station::WindAnswer;
+use store::Hearing;
+use writer::Written;
+
+// Puts bytes as they are, and the end of the line.
+pub fn put_line(text: &mut [u8], at: usize, bytes: &[u8]) -> usize
+    ensures { λ r. ⌜ Put (now (text .entry)) (now (text .exit)) at (now (bytes .entry) ++ end) r ⌝ }
+{
+    let behind = text::put_bytes(text, at, bytes);
+    text::put_byte(text, behind, b'\n')
+}
+
+// ---- refusals
+
+// Puts numbers, each behind a space.
+fn put_fields(text: &mut [u8], at: usize, numbers: &[u64]) -> usize
+    requires { ⌜ at ≤ length (now text) ⌝ }
+    ensures { λ r. ⌜ Put (now (text .entry)) (now (text .exit)) at (fields (now (numbers .entry))) r ⌝ }
+{
+    let mut place = at;
+    let mut i = 0;
+    while i < numbers.len() {
+        place = text::put_field(text, place, numbers[i]);
+        i += 1;
+    }
+    place
+}
+
+// Puts the line of a refusal: its number, and behind it what it also returns.
+fn put_refusal(text: &mut [u8], at: usize, numbers: &[u64]) -> usize
+    ensures { λ r. ⌜ Put (now (text .entry)) (now (text .exit)) at (letters "refused" ++ (fields (now (numbers .entry)) ++ end)) r ⌝ }
+{
+    let behind = text::put_bytes(text, at, b"refused");
+    let last = put_fields(text, behind, numbers);
+    text::put_byte(text, last, b'\n')
+}
+
+// The number of a message's refusal.
+fn number_of(r: MessageRefusal) -> u64
+    ensures { λ n. ⌜ n ≡ numberOf r ⌝ }
+{
+    match r {
+        MessageRefusal::NotSixteenBytes => 1,
+        MessageRefusal::NoSuchChannel => 2,
+        MessageRefusal::ByteNotZero => 3,
+        MessageRefusal::WetBulbNotWater => 4,
+        MessageRefusal::MinuteTooLate => 5,
+        MessageRefusal::NotFinite => 6,
+        MessageRefusal::OutsideLimits => 7,
+    }
+}
+
+// Puts the line of a question's refusal.
+fn put_question_refusal(text: &mut [u8], at: usize, why: QuestionRefusal) -> usize
+    ensures { λ r. ⌜ Put (now (text .entry)) (now (text .exit)) at (refusedLine (refusalOf why)) r ⌝ }
+{
+    match why {
+        QuestionRefusal::MinuteTooLate => put_refusal(text, at, &[5]),
+        QuestionRefusal::OutsideLimits => put_refusal(text, at, &[7]),
+        QuestionRefusal::MissingReading(channel, minute) => {
+            put_refusal(text, at, &[11, channel as u64, minute.0 as u64])
+        }
+        QuestionRefusal::OutsideCertificate(minute) => {
+            put_refusal(text, at, &[12, minute.0 as u64])
+        }
+        QuestionRefusal::WetAboveDry => put_refusal(text, at, &[13]),
+        QuestionRefusal::NoThreeHours => put_refusal(text, at, &[14]),
+        QuestionRefusal::TooDry => put_refusal(text, at, &[15]),
+    }
+}
+
+// ---- opening and hearing
+
+// Puts `open`, or the refusal.
+pub fn put_opening(text: &mut [u8], at: usize, r: Checked) -> usize
+    ensures { λ place. ⌜ Put (now (text .entry)) (now (text .exit)) at (openingLine r) place ⌝ }
+{
+    match r {
+        Checked::Good => put_line(text, at, b"open"),
+        Checked::OutsideLimits => put_refusal(text, at, &[9]),
+        Checked::CertificateBroken => put_refusal(text, at, &[10]),
+    }
+}
+
+// Puts `heard`, or the refusal.
+pub fn put_hearing(text: &mut [u8], at: usize, r: Hearing) -> usize
+    ensures { λ place. ⌜ Put (now (text .entry)) (now (text .exit)) at (hearingLine r) place ⌝ }
+{
+    match r {
+        Hearing::Heard => put_line(text, at, b"heard"),
+        Hearing::Refused(why) => put_refusal(text, at, &[number_of(why)]),
+        Hearing::NotLater => put_refusal(text, at, &[8]),
+    }
+}
+
+// ---- the four questions
+
+// Puts the letter of an answer, and the minute.
+fn put_head(text: &mut [u8], at: usize, letter: u8, minute: u32) -> usize
+    ensures { λ r. ⌜ Put (now (text .entry)) (now (text .exit)) at ((letter ∷ []) ++ field minute) r ⌝ }
+{
+    let behind = text::put_byte(text, at, letter);
+    text::put_field(text, behind, minute as u64)
+}
+
+// Puts the line of a pressure.
+fn put_sea_level(text: &mut [u8], at: usize, minute: u32, p: Hectopascals) -> usize
+    ensures { λ r. ⌜ Put (now (text .entry)) (now (text .exit)) at (pressureLine minute (pressure.Given p)) r ⌝ }
+{
+    let behind = put_head(text, at, b'P', minute);
+    let last = text::put_signed(text, behind, p.0);
+    text::put_byte(text, last, b'\n')
+}
+
+// Puts the pressure at sea level, or the refusal.
+pub fn put_pressure(text: &mut [u8], at: usize, minute: u32, r: PressureAnswer) -> usize
+    ensures { λ place. ⌜ Put (now (text .entry)) (now (text .exit)) at (pressureLine minute r) place ⌝ }
+{
+    match r {
+        PressureAnswer::Given(p) => put_sea_level(text, at, minute, p),
+        PressureAnswer::Refused(why) => put_question_refusal(text, at, why),
+    }
+}
+
+// Puts the line of a change of pressure.
+fn put_change(text: &mut [u8], at: usize, minute: u32, change: Hectopascals, absent: u64) -> usize
+    ensures { λ r. ⌜ Put (now (text .entry)) (now (text .exit)) at (tendencyLine minute (tendency.Given change absent)) r ⌝ }
+{
+    let behind = put_head(text, at, b'T', minute);
+    let second = text::put_signed(text, behind, change.0);
+    let last = text::put_field(text, second, absent);
+    text::put_byte(text, last, b'\n')
+}
+
+// Puts the tendency, or the refusal.
+pub fn put_tendency(text: &mut [u8], at: usize, minute: u32, r: TendencyAnswer) -> usize
+    ensures { λ place. ⌜ Put (now (text .entry)) (now (text .exit)) at (tendencyLine minute r) place ⌝ }
+{
+    match r {
+        TendencyAnswer::Given(change, absent) => put_change(text, at, minute, change, absent),
+        TendencyAnswer::Refused(why) => put_question_refusal(text, at, why),
+    }
+}
+
+// Puts the line of a true wind.
+fn put_true_wind(
+    text: &mut [u8],
+    at: usize,
+    minute: u32,
+    speed: MetresPerSecond,
+    direction: Degrees,
+) -> usize
+    ensures { λ r. ⌜ Put (now (text .entry)) (now (text .exit)) at (windLine minute (wind.Given speed direction)) r ⌝ }
+{
+    let behind = put_head(text, at, b'W', minute);
+    let second = text::put_field(text, behind, speed.0 as u64);
+    let last = text::put_field(text, second, direction.0 as u64);
+    text::put_byte(text, last, b'\n')
+}
+
+// Puts the true wind, or the refusal.
+pub fn put_wind(text: &mut [u8], at: usize, minute: u32, r: WindAnswer) -> usize
+    ensures { λ place. ⌜ Put (now (text .entry)) (now (text .exit)) at (windLine minute r) place ⌝ }
+{
+    match r {
+        WindAnswer::Given(speed, direction) => put_true_wind(text, at, minute, speed, direction),
+        WindAnswer::Refused(why) => put_question_refusal(text, at, why),
+    }
+}
+
+// Puts the figures of a humidity, and the end of the line.
+fn put_moisture(text: &mut [u8], at: usize, h: HumidityFigures) -> usize
+    ensures { λ r. ⌜ Put (now (text .entry)) (now (text .exit)) at (humidityFields h) r ⌝ }
+{
+    let e = h.e;
+    let saturation = h.saturation;
+    let deficit = h.deficit;
+    let dew = h.dew.0;
+    let second = text::put_field(text, at, e.0 as u64);
+    let third = text::put_field(text, second, saturation.0 as u64);
+    let fourth = text::put_field(text, third, deficit.0 as u64);
+    let fifth = text::put_field(text, fourth, h.relative as u64);
+    let last = text::put_signed(text, fifth, dew.number());
+    text::put_byte(text, last, b'\n')
+}
+
+// Puts the line of a humidity.
+fn put_figures(text: &mut [u8], at: usize, minute: u32, h: HumidityFigures) -> usize
+    ensures { λ r. ⌜ Put (now (text .entry)) (now (text .exit)) at (humidityLine minute (humidity.Given h)) r ⌝ }
+{
+    let behind = put_head(text, at, b'H', minute);
+    put_moisture(text, behind, h)
+}
+
+// Puts the humidity, or the refusal.
+pub fn put_humidity(text: &mut [u8], at: usize, minute: u32, r: HumidityAnswer) -> usize
+    ensures { λ place. ⌜ Put (now (text .entry)) (now (text .exit)) at (humidityLine minute r) place ⌝ }
+{
+    match r {
+        HumidityAnswer::Given(h) => put_figures(text, at, minute, h),
+        HumidityAnswer::Refused(why) => put_question_refusal(text, at, why),
+    }
+}
+
+// ---- files
+
+// The byte of a digit of sixteen.
+fn digit16(d: u8) -> u8
+    requires { ⌜ d < 16 ⌝ }
+    ensures { λ r. ⌜ r ≡ digit16 d ⌝ }
+{
+    if d < 10 { 48 + d } else { 87 + d }
+}
+
+// Puts the two digits of a byte.
+fn put_hex_byte(text: &mut [u8], at: usize, b: u8) -> usize
+    ensures { λ r. ⌜ Put (now (text .entry)) (now (text .exit)) at (hexOf b) r ⌝ }
+{
+    let behind = text::put_byte(text, at, digit16(b / 16));
+    text::put_byte(text, behind, digit16(b % 16))
+}
+
+// Puts the digits of bytes.
+fn put_hex(text: &mut [u8], at: usize, bytes: &[u8]) -> usize
+    requires { ⌜ at ≤ length (now text) ⌝ }
+    ensures { λ r. ⌜ Put (now (text .entry)) (now (text .exit)) at (hex (now (bytes .entry))) r ⌝ }
+{
+    let mut place = at;
+    let mut i = 0;
+    while i < bytes.len() {
+        place = put_hex_byte(text, place, bytes[i]);
+        i += 1;
+    }
+    place
+}
+
+// Puts the line of a file.
+fn put_file(text: &mut [u8], at: usize, file: &[u8]) -> usize
+    ensures { λ r. ⌜ Put (now (text .entry)) (now (text .exit)) at (fileLine (now (file .entry))) r ⌝ }
+{
+    let behind = text::put_bytes(text, at, b"file ");
+    let last = put_hex(text, behind, file);
+    text::put_byte(text, last, b'\n')
+}
+
+// Puts the bytes of a file where it was written, or the refusal. `file` is what was written.
+pub fn put_written(text: &mut [u8], at: usize, r: Written, file: &[u8]) -> usize
+    ensures { λ place. ⌜ Put (now (text .entry)) (now (text .exit)) at (writtenLine (now (file .entry)) r) place ⌝ }
+{
+    match r {
+        Written::Done(_) => put_file(text, at, file),
+        Written::BreaksRules(index) => put_refusal(text, at, &[16, index as u64]),
+        Written::TooShort(needed) => put_refusal(text, at, &[17, needed as u64]),
+    }
+}

@@ -1,0 +1,57 @@
+-- `humidity_body` meets its contract: the vapour pressure, and then the rest. Assumes nothing.
+use mathlib.Core.Path.{sym, ap, _∙_}
+use Rattle.command.specs.declared.Flaw.the-variants.{Misshapen}
+use Rattle.command.specs.Words.{moreAt}
+use Rattle.command.specs.Numeral.{whole}
+use Rattle.command.specs.Rules.{most16}
+use Rattle.command.specs.WriteWords.{humidityBody, saturationBody}
+use Rattle.command.specs.Work.{wholeField}
+use Rattle.command.proofs.RuleLaws.{next-given, next-wrong, first-whole}
+use native.Mathlib.Omega.{arith}
+use borrow.Author.Needs.{needs}
+use Rattle.command.proofs.write.humidity_body.Statement.{statement}
+use Rattle.command.proofs.write.humidity_body.Tie as tie
+
+whole-field-requires : tie.Need-whole-field-requires
+whole-field-requires c κs = search needs
+
+enum-known-flaw : tie.Need-enum-known-flaw
+enum-known-flaw c = search needs
+
+enum-known-e : tie.Need-enum-known-e
+enum-known-e c = search needs
+
+cast-saturation-body : tie.Need-cast-saturation-body
+cast-saturation-body c =
+    let q = c .before .before .before .before .before .args in
+    let t = sym (c .before .before .before .whole-field .ensures) ∙ ap (wholeField (q .word .now)) (c .before .e .given .1) in
+    omega (arith, first-whole Misshapen most16 _ (moreAt (q .word .now) (q .at)) _ t)
+
+saturation-body-requires : tie.Need-saturation-body-requires
+saturation-body-requires c κs = search needs
+
+returns : tie.Need-returns
+unfolding humidityBody
+returns c =
+    let q = c .before .before .before .before .before .args in
+    let t = sym (c .before .before .before .whole-field .ensures) ∙ ap (wholeField (q .word .now)) (c .before .flaw .given .1) in
+    sym (next-wrong Misshapen (whole most16) saturationBody (moreAt (q .word .now) (q .at)) t)
+
+returns-2 : tie.Need-returns-2
+unfolding humidityBody
+returns-2 c =
+    let q = c .before .before .before .before .before .before .args in
+    let t = sym (c .before .before .before .before .whole-field .ensures) ∙ ap (wholeField (q .word .now)) (c .before .before .e .given .1) in
+    c .saturation-body .ensures ∙ sym (next-given Misshapen (whole most16) saturationBody (moreAt (q .word .now) (q .at)) t)
+
+pub humidity-body-spec : {M : Type 1} → statement M
+humidity-body-spec =
+    tie.close
+    (tie.spec
+    whole-field-requires
+    enum-known-flaw
+    enum-known-e
+    cast-saturation-body
+    saturation-body-requires
+    returns
+    returns-2)

@@ -1,0 +1,57 @@
+-- `wind_body` meets its contract: the speed, and then the rest. Assumes nothing.
+use mathlib.Core.Path.{sym, ap, _∙_}
+use Rattle.command.specs.declared.Flaw.the-variants.{Misshapen}
+use Rattle.command.specs.Words.{moreAt}
+use Rattle.command.specs.Numeral.{whole}
+use Rattle.command.specs.Rules.{most16}
+use Rattle.command.specs.WriteWords.{directionBody, windBody}
+use Rattle.command.specs.Work.{wholeField}
+use Rattle.command.proofs.RuleLaws.{next-given, next-wrong, first-whole}
+use native.Mathlib.Omega.{arith}
+use borrow.Author.Needs.{needs}
+use Rattle.command.proofs.write.wind_body.Statement.{statement}
+use Rattle.command.proofs.write.wind_body.Tie as tie
+
+whole-field-requires : tie.Need-whole-field-requires
+whole-field-requires c κs = search needs
+
+enum-known-flaw : tie.Need-enum-known-flaw
+enum-known-flaw c = search needs
+
+enum-known-speed : tie.Need-enum-known-speed
+enum-known-speed c = search needs
+
+cast-direction-body : tie.Need-cast-direction-body
+cast-direction-body c =
+    let q = c .before .before .before .before .before .args in
+    let t = sym (c .before .before .before .whole-field .ensures) ∙ ap (wholeField (q .word .now)) (c .before .speed .given .1) in
+    omega (arith, first-whole Misshapen most16 _ (moreAt (q .word .now) (q .at)) _ t)
+
+direction-body-requires : tie.Need-direction-body-requires
+direction-body-requires c κs = search needs
+
+returns : tie.Need-returns
+unfolding windBody
+returns c =
+    let q = c .before .before .before .before .before .args in
+    let t = sym (c .before .before .before .whole-field .ensures) ∙ ap (wholeField (q .word .now)) (c .before .flaw .given .1) in
+    sym (next-wrong Misshapen (whole most16) directionBody (moreAt (q .word .now) (q .at)) t)
+
+returns-2 : tie.Need-returns-2
+unfolding windBody
+returns-2 c =
+    let q = c .before .before .before .before .before .before .args in
+    let t = sym (c .before .before .before .before .whole-field .ensures) ∙ ap (wholeField (q .word .now)) (c .before .before .speed .given .1) in
+    c .direction-body .ensures ∙ sym (next-given Misshapen (whole most16) directionBody (moreAt (q .word .now) (q .at)) t)
+
+pub wind-body-spec : {M : Type 1} → statement M
+wind-body-spec =
+    tie.close
+    (tie.spec
+    whole-field-requires
+    enum-known-flaw
+    enum-known-speed
+    cast-direction-body
+    direction-body-requires
+    returns
+    returns-2)

@@ -1,0 +1,9 @@
+pub mod Words
+pub mod Numeral
+pub mod Hex
+pub mod Rules
+pub mod OpenWords
+pub mod Questions
+pub mod WriteWords
+pub mod Commands
+pub mod Work
