@@ -1,1 +1,3 @@
-pub mod Numbers
+pub mod Told
+pub mod Opening
+pub mod Files

@@ -1,0 +1,93 @@
+/* A watch of four hours through the C interface: instruments are heard each minute with a gap, the four questions are asked, the
+ * answers go into a watch file, and the file is listed. */
+#include <inttypes.h>
+#include <stdio.h>
+#include <string.h>
+
+#include "zhitomrak.h"
+
+/* A message: channel, minute and binary32 values, little endian. */
+static void send(zhitomrak_store *store, uint8_t channel, uint32_t minute, float first, float second)
+{
+    uint8_t message[16] = {channel};
+    memcpy(message + 4, &minute, 4);
+    memcpy(message + 8, &first, 4);
+    memcpy(message + 12, &second, 4);
+    uint32_t refused = zhitomrak_hear(store, message, sizeof message);
+    if (refused)
+        printf("channel %u, minute %" PRIu32 ": refused %" PRIu32 "\n", channel, minute, refused);
+}
+
+static void say_refusal(zhitomrak_refusal why)
+{
+    printf("refused %" PRIu32 ", channel %" PRIu32 ", minute %" PRIu32 "\n", why.number, why.channel, why.minute);
+}
+
+/* The instruments of one minute. */
+static void minute_passes(zhitomrak_store *store, uint32_t minute)
+{
+    float falls = (float)minute * 0.03f;
+    if (minute < 60 || minute >= 75) /* a quarter of an hour without barometer */
+        send(store, 0, minute, 741.9f - falls, 0.0f);
+    send(store, 1, minute, 12.4f, 0.0f);
+    send(store, 2, minute, 2.5f, 40.0f);
+    send(store, 3, minute, 12.5f, 260.0f);
+    send(store, 4, minute, 20.0f, 0.0f);
+    send(store, 5, minute, 15.0f, 0.0f);
+}
+
+int main(void)
+{
+    static zhitomrak_store store;
+    zhitomrak_settings settings = {
+        .unit = ZHITOMRAK_MM_HG,
+        .height = 101,
+        .difference = 0,
+        .coefficient = 24,
+        .psychrometer = 662,
+        .count = 2,
+        .points = {{7300, -4}, {7500, -8}},
+    };
+    settings.height = 601;
+    printf("open: %" PRIu32 "\n", zhitomrak_open(&store, settings));
+    settings.height = 101;
+    printf("open: %" PRIu32 "\n", zhitomrak_open(&store, settings));
+    for (uint32_t minute = 0; minute <= 240; minute++)
+        minute_passes(&store, minute);
+    send(&store, 0, 240, 741.9f, 0.0f); /* not later than the newest */
+
+    zhitomrak_pressure_answer missing = zhitomrak_pressure(&store, 70);
+    say_refusal(missing.refusal);
+    zhitomrak_pressure_answer pressure = zhitomrak_pressure(&store, 240);
+    zhitomrak_tendency_answer tendency = zhitomrak_tendency(&store, 230);
+    zhitomrak_wind_answer wind = zhitomrak_wind(&store, 240);
+    zhitomrak_humidity_answer humidity = zhitomrak_humidity(&store, 240);
+    if (pressure.refusal.number || tendency.refusal.number || wind.refusal.number || humidity.refusal.number)
+        return 1;
+    printf("pressure %" PRId64 "\n", pressure.pressure);
+    printf("tendency %" PRId64 ", %" PRIu64 " absent\n", tendency.change, tendency.absent);
+    printf("wind %" PRIu32 " from %" PRIu32 "\n", wind.speed, wind.direction);
+    printf("humidity %" PRIu32 " %" PRIu32 " %" PRIu32 " %" PRIu32 " %" PRId32 "\n", humidity.e, humidity.saturation, humidity.deficit,
+           humidity.relative, humidity.dew);
+
+    zhitomrak_records records = {{
+        {ZHITOMRAK_TENDENCY, 230, (int32_t)tendency.change, (int32_t)tendency.absent, 0, 0, 0},
+        {ZHITOMRAK_PRESSURE, 240, (int32_t)pressure.pressure, 0, 0, 0, 0},
+        {ZHITOMRAK_WIND, 240, (int32_t)wind.speed, (int32_t)wind.direction, 0, 0, 0},
+        {ZHITOMRAK_HUMIDITY, 240, (int32_t)humidity.e, (int32_t)humidity.saturation, (int32_t)humidity.deficit, (int32_t)humidity.relative,
+         humidity.dew},
+    }};
+    uint8_t file[ZHITOMRAK_FILE];
+    zhitomrak_written short_of_room = zhitomrak_write(file, 10, records, 4);
+    printf("write: refused %" PRIu32 ", %zu bytes needed\n", short_of_room.number, short_of_room.bytes);
+    zhitomrak_written written = zhitomrak_write(file, sizeof file, records, 4);
+    printf("written: %zu bytes\n", written.bytes);
+
+    zhitomrak_file read = zhitomrak_read(file, written.bytes);
+    printf("read: %zu records, the last of minute %" PRIu32 "\n", read.count, read.records.all[read.count - 1].minute);
+    uint8_t text[ZHITOMRAK_TEXT];
+    fwrite(text, 1, zhitomrak_list(file, written.bytes, text, sizeof text), stdout);
+    file[written.bytes - 1] ^= 1; /* a damaged dew point */
+    fwrite(text, 1, zhitomrak_list(file, written.bytes, text, sizeof text), stdout);
+    return 0;
+}

@@ -1,0 +1,182 @@
+/* Zhitomrak: a ship's weather station whose every figure is proved. Link libzhitomrak.a (rt staticlib zhitomrak).
+ *
+ * Each function's promise stands in its comment, is proved for the compiled code's source for all arguments whatever, and allows a
+ * single answer. Numbers of refusals are those of document 01, "Numbered refusals"; 0 says that nothing was refused. A refusal
+ * gives no figure: figures beside one are 0. All quantities are whole numbers of the last place that document 01 shows.
+ *
+ * What the caller owes, and the library cannot see:
+ *   1. A pointer to a store is not null, is aligned for uint64_t, and points to the ZHITOMRAK_WORDS words of a zhitomrak_store that
+ *      may be read, and written where the pointer is not const.
+ *   2. A pointer with a length is not null (also where the length is 0) and points to that many bytes that may be read, and written
+ *      where the pointer is not const; a length is at most PTRDIFF_MAX.
+ *   3. During a call nothing else writes what the pointers of that call point to, and nothing else reads what the call may write.
+ *      So what a call may write overlaps nothing else of that call; two threads may ask one store at once, and none may hear then.
+ *   4. The functions are called with the C calling convention of x86-64 Linux, with the types declared here.
+ * Nothing is owed beyond that: any block, opened or not, any bytes, any settings, any minute, any records and any count get the
+ * answer that the comment names. The library keeps nothing between calls, allocates nothing, and calls nothing but memcpy,
+ * memset and memmove.
+ */
+#ifndef ZHITOMRAK_H
+#define ZHITOMRAK_H
+
+#include <stddef.h>
+#include <stdint.h>
+
+#ifdef __cplusplus
+extern "C" {
+#endif
+
+/* ---- the store ---- */
+
+/* The words of a store's block: settings, and six channels of 256 minutes. */
+#define ZHITOMRAK_WORDS 1588
+
+/* The most points of a certificate. */
+#define ZHITOMRAK_POINTS 16
+
+/* A store lives in a block that the caller lends. What the words mean is the library's affair. */
+typedef struct {
+    uint64_t words[ZHITOMRAK_WORDS];
+} zhitomrak_store;
+
+/* A point of the barometer's certificate, in tenths of the barometer's unit. */
+typedef struct {
+    int32_t reading;
+    int32_t correction;
+} zhitomrak_point;
+
+#define ZHITOMRAK_HPA 0u
+#define ZHITOMRAK_MM_HG 1u
+
+typedef struct {
+    uint32_t unit;         /* ZHITOMRAK_HPA or ZHITOMRAK_MM_HG */
+    int32_t height;        /* of the barometer: 0 to 600 tenths of a metre */
+    int32_t difference;    /* of the sea level: -300 to 300 tenths of a metre */
+    int32_t coefficient;   /* of temperature: -50 to 50 thousandths of the unit per degree */
+    int32_t psychrometer;  /* coefficient A: 500 to 1000 millionths, 662 when the passport gives none */
+    uint32_t count;        /* how many points are the certificate: 2 to 16 */
+    zhitomrak_point points[ZHITOMRAK_POINTS]; /* readings within the barometer's limits and strictly rising, corrections -50 to 50 */
+} zhitomrak_settings;
+
+/* Opens a store: 0, and the block starts empty with these settings, whatever it held before. Or the first of these whose reason
+ * holds, and the block stays as it was: 9, a setting other than the certificate is outside its limits (a unit that is none, too);
+ * 10, the certificate breaks its rules. */
+uint32_t zhitomrak_open(zhitomrak_store *store, zhitomrak_settings settings);
+
+/* Hears a message of instruments, 16 bytes: 0, and its reading is kept; or the first of 1 to 8 whose reason holds, and the block
+ * stays as it was. 1, not 16 bytes; 2, channel above 5; 3, a byte that must be zero isn't; 4, wet-bulb state not water; 5, minute
+ * above 16777215; 6, infinite or not a number; 7, outside limits; 8, not later than the channel's newest. */
+uint32_t zhitomrak_hear(zhitomrak_store *store, const uint8_t *message, size_t length);
+
+/* ---- questions: asking changes nothing ---- */
+
+/* Why a question is refused: 5, minute above 16777215; 11, a reading is absent or no longer kept (channel and minute say which); 12,
+ * the barometer's reading lies outside the certificate (minute says when); 13, wet bulb above dry bulb; 14, tendency asked for a
+ * minute below 180; 15, vapour pressure below 0.19 hPa. The tests stand in this order: 5, 14, 11 by minute and channel, 12 by
+ * minute, 13, 15. Of a block that no zhitomrak_open made, humidity can also be refused 7, between 12 and 13. */
+typedef struct {
+    uint32_t number;  /* 0: answered */
+    uint32_t channel; /* of 11, else 0 */
+    uint32_t minute;  /* of 11 and 12, else 0 */
+} zhitomrak_refusal;
+
+typedef struct {
+    zhitomrak_refusal refusal;
+    int64_t pressure; /* tenths of hPa */
+} zhitomrak_pressure_answer;
+
+/* The pressure at sea level at a minute; or 5, 11, 12. */
+zhitomrak_pressure_answer zhitomrak_pressure(const zhitomrak_store *store, uint32_t minute);
+
+typedef struct {
+    zhitomrak_refusal refusal;
+    int64_t change;  /* tenths of hPa */
+    uint64_t absent; /* minutes, 0 to 179 */
+} zhitomrak_tendency_answer;
+
+/* The pressure at sea level at a minute less that 180 minutes before, and how many of the 179 minutes strictly between have no
+ * barometer reading; or 5, 14, 11, 12. */
+zhitomrak_tendency_answer zhitomrak_tendency(const zhitomrak_store *store, uint32_t minute);
+
+typedef struct {
+    zhitomrak_refusal refusal;
+    uint32_t speed;     /* tenths of m/s */
+    uint32_t direction; /* degrees that it comes from, 1 to 360; 0 in a calm, where the speed is 0 */
+} zhitomrak_wind_answer;
+
+/* The true wind at a minute; or 5, 11. */
+zhitomrak_wind_answer zhitomrak_wind(const zhitomrak_store *store, uint32_t minute);
+
+typedef struct {
+    zhitomrak_refusal refusal;
+    uint32_t e;          /* vapour pressure, hundredths of hPa */
+    uint32_t saturation; /* hundredths of hPa */
+    uint32_t deficit;    /* hundredths of hPa */
+    uint32_t relative;   /* percent */
+    int32_t dew;         /* dew point, tenths of a degree */
+} zhitomrak_humidity_answer;
+
+/* Humidity at a minute, by the psychrometer; or 5, 11, 12, 13, 15. */
+zhitomrak_humidity_answer zhitomrak_humidity(const zhitomrak_store *store, uint32_t minute);
+
+/* ---- watch files ---- */
+
+/* The most records of a file, and the bytes of the longest file and of the room that a listing asks for. */
+#define ZHITOMRAK_RECORDS 48
+#define ZHITOMRAK_FILE 820
+#define ZHITOMRAK_TEXT 2264
+
+#define ZHITOMRAK_PRESSURE 1u
+#define ZHITOMRAK_TENDENCY 2u
+#define ZHITOMRAK_WIND 3u
+#define ZHITOMRAK_HUMIDITY 4u
+
+/* A record: its kind, its minute, and its figures in the file's order. Pressure: pressure. Tendency: change, absent. Wind: speed,
+ * direction. Humidity: e, saturation, deficit, relative, dew. Figures that a kind has not are told as 0, and not looked at. */
+typedef struct {
+    uint32_t kind;
+    uint32_t minute;
+    int32_t first;
+    int32_t second;
+    int32_t third;
+    int32_t fourth;
+    int32_t fifth;
+} zhitomrak_record;
+
+typedef struct {
+    zhitomrak_record all[ZHITOMRAK_RECORDS];
+} zhitomrak_records;
+
+typedef struct {
+    uint32_t number; /* 0, or 18 */
+    size_t place;    /* of 18, else 0 */
+    size_t count;    /* how many records, 0 beside 18 */
+    zhitomrak_records records; /* all zeros behind the last */
+} zhitomrak_file;
+
+/* Reads a watch file: its records; or 18, file broken, with the place: the first byte of the first wrong field, the file's length
+ * where a field is cut short, or the first extra byte. */
+zhitomrak_file zhitomrak_read(const uint8_t *file, size_t length);
+
+typedef struct {
+    uint32_t number; /* 0, 16 or 17 */
+    size_t index;    /* of 16, else 0 */
+    size_t bytes;    /* of the file that was written, or needed where 17 */
+} zhitomrak_written;
+
+/* Writes the first `count` records as a watch file at the start of the buffer, and leaves the bytes behind it. Or the first of
+ * these whose reason holds, and every byte stays: 16, a record breaks the file rules, or is the 49th, with the index of the first
+ * such, from 0 (a kind that is none and a figure that does not fit its bytes break the rules); 17, the buffer is too short, with
+ * the bytes needed. A count above 48 looks at the 48 records that there are. */
+zhitomrak_written zhitomrak_write(uint8_t *buffer, size_t length, zhitomrak_records records, size_t count);
+
+/* Lists a watch file: puts its text at the start of the lent bytes, leaves those behind it, and gives the text's length, which is
+ * never 0. A broken file is listed too, as document 01 says. Where fewer than ZHITOMRAK_TEXT bytes are lent: 0, and every byte
+ * stays. */
+size_t zhitomrak_list(const uint8_t *file, size_t length, uint8_t *text, size_t room);
+
+#ifdef __cplusplus
+}
+#endif
+
+#endif

@@ -1,0 +1,152 @@
+//! What both sides are given: settings, messages of whole watches, and records of files.
+
+use reference::{humidity, pressure, settings, station, vapour, watchfile as independent, wind};
+use zhitomrak::watchfile as proved;
+use zhitomrak::{Humidity, Point, Settings, Store, Tendency, Unit, Wind};
+
+/// Five points, a height and coefficients that all have work to do.
+const POINTS: [(i32, i32); 5] = [(8500, -12), (9400, 3), (9900, 8), (10300, -4), (11000, 25)];
+
+pub fn open_proved() -> Store {
+    let certificate = POINTS.map(|(reading, correction)| Point {
+        reading,
+        correction,
+    });
+    let settings = Settings {
+        unit: Unit::Hectopascals,
+        height: 101,
+        difference: -268,
+        coefficient: 24,
+        psychrometer: 662,
+        certificate: &certificate,
+    };
+    Store::open(&settings).expect("the settings are good")
+}
+
+pub fn open_independent() -> station::Store {
+    let certificate = POINTS.map(|(reading, correction)| settings::Point {
+        reading,
+        correction,
+    });
+    let settings = settings::Settings {
+        unit: settings::Unit::HPa,
+        height: 101,
+        difference: -268,
+        coefficient: 24,
+        psychrometer: 662,
+        certificate: &certificate,
+    };
+    station::Store::open(&settings).expect("the settings are good")
+}
+
+pub type Message = [u8; 16];
+
+fn message(channel: u8, minute: u32, first: f32, second: f32) -> Message {
+    let mut m = [0; 16];
+    m[0] = channel;
+    m[4..8].copy_from_slice(&minute.to_le_bytes());
+    m[8..12].copy_from_slice(&first.to_le_bytes());
+    if channel == 2 || channel == 3 {
+        m[12..].copy_from_slice(&second.to_le_bytes());
+    }
+    m
+}
+
+/// A number from 0 to n - 1 with no pattern.
+fn scattered(i: u32, n: u32) -> u32 {
+    (i.wrapping_mul(2_654_435_761) ^ i.rotate_left(13).wrapping_mul(40_503)) % n
+}
+
+/// All six channels a minute, each minute `step` after the last; values with no pattern.
+pub fn watch(minutes: u32, step: u32) -> Vec<Message> {
+    let mut sent = Vec::new();
+    for t in 0..minutes {
+        let tenths = |salt: u32, low: i32, high: i32| {
+            (low + scattered(t * 8 + salt, (high - low + 1) as u32) as i32) as f32 / 10.0
+        };
+        let dry = tenths(4, -100, 350);
+        sent.push(message(0, t * step, tenths(0, 9000, 10800), 0.0));
+        sent.push(message(1, t * step, tenths(1, -100, 400), 0.0));
+        sent.push(message(
+            2,
+            t * step,
+            tenths(2, 0, 400),
+            scattered(t + 7, 361) as f32,
+        ));
+        sent.push(message(
+            3,
+            t * step,
+            tenths(3, 0, 300),
+            scattered(t + 9, 361) as f32,
+        ));
+        sent.push(message(4, t * step, dry, 0.0));
+        sent.push(message(
+            5,
+            t * step,
+            dry - scattered(t + 3, 40) as f32 / 10.0,
+            0.0,
+        ));
+    }
+    sent
+}
+
+pub type Records = (Vec<proved::Record>, Vec<independent::Record>);
+
+/// So many records of all four kinds, good ones, rising by minute.
+pub fn records(count: usize) -> Records {
+    let mut both: Records = (Vec::new(), Vec::new());
+    for i in 0..count {
+        let minute = 200 + 3 * i as u32;
+        let n = scattered(i as u32 + 1, 900) as i32;
+        let (mine, theirs) = match i % 4 {
+            0 => (
+                proved::Body::Pressure(9000 + n),
+                independent::Body::Pressure(9000 + n),
+            ),
+            1 => (
+                proved::Body::Tendency(Tendency {
+                    change: n - 450,
+                    absent: n % 180,
+                }),
+                independent::Body::Tendency(pressure::Tendency {
+                    change: n - 450,
+                    absent: n % 180,
+                }),
+            ),
+            2 => (
+                proved::Body::Wind(Wind {
+                    speed: 1 + n,
+                    direction: 1 + n % 360,
+                }),
+                independent::Body::Wind(wind::Wind {
+                    speed: 1 + n,
+                    direction: 1 + n % 360,
+                }),
+            ),
+            _ => {
+                let (e, saturation) = (19 + n, 1000 + n);
+                let h = humidity::Humidity {
+                    e,
+                    saturation,
+                    deficit: saturation - e,
+                    relative: humidity::relative(e, saturation),
+                    dew: vapour::dew_point(e).expect("within the table"),
+                };
+                let mine = Humidity {
+                    e: h.e,
+                    saturation: h.saturation,
+                    deficit: h.deficit,
+                    relative: h.relative,
+                    dew: h.dew,
+                };
+                (proved::Body::Humidity(mine), independent::Body::Humidity(h))
+            }
+        };
+        both.0.push(proved::Record { minute, body: mine });
+        both.1.push(independent::Record {
+            minute,
+            body: theirs,
+        });
+    }
+    both
+}

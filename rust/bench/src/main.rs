@@ -1,0 +1,332 @@
+//! The proved library beside the independent implementation in one run: ns a call and their ratio. Both get the same inputs, and
+//! their answers are compared before anything is timed. Each figure is the least of several rounds, taken in turns.
+//!
+//! usage: bench
+
+mod inputs;
+
+use std::hint::black_box;
+use std::time::Instant;
+
+use inputs::Message;
+use reference::{listing, station, watchfile as independent};
+use zhitomrak::watchfile as proved;
+use zhitomrak::{raw, Store};
+
+const ROUNDS: usize = 60;
+
+fn time(calls: usize, work: impl FnOnce() -> u64) -> f64 {
+    let began = Instant::now();
+    black_box(work());
+    began.elapsed().as_nanos() as f64 / calls as f64
+}
+
+fn print_row(name: &str, proved: f64, plain: f64) {
+    println!("{name:42} {proved:9.1} {plain:9.1} {:9.2}", proved / plain);
+}
+
+/// Times both in turns and prints a row.
+fn row(name: &str, calls: usize, mut mine: impl FnMut() -> u64, mut theirs: impl FnMut() -> u64) {
+    let (mut a, mut b) = (f64::MAX, f64::MAX);
+    for _ in 0..ROUNDS {
+        a = a.min(time(calls, &mut mine));
+        b = b.min(time(calls, &mut theirs));
+    }
+    print_row(name, a, b);
+}
+
+fn same<T: PartialEq + std::fmt::Debug>(what: &str, mine: T, theirs: T) {
+    assert_eq!(mine, theirs, "{what}: the answers differ");
+}
+
+/// A refusal's number, or 0.
+fn number<A, E>(answer: &Result<A, E>, of: impl Fn(&E) -> u32) -> u32 {
+    answer.as_ref().err().map_or(0, of)
+}
+
+fn hear_proved(store: &mut Store, sent: &[Message]) -> u64 {
+    sent.iter()
+        .map(|m| number(&store.hear(black_box(m)), |r| r.number()))
+        .map(u64::from)
+        .sum()
+}
+
+fn hear_independent(store: &mut station::Store, sent: &[Message]) -> u64 {
+    sent.iter()
+        .map(|m| number(&store.hear(black_box(m)), |r| u32::from(r.number())))
+        .map(u64::from)
+        .sum()
+}
+
+fn hearing(name: &str, sent: &[Message]) {
+    let (mut a, mut b) = (inputs::open_proved(), inputs::open_independent());
+    for m in sent {
+        same(
+            name,
+            number(&a.hear(m), |r| r.number()),
+            number(&b.hear(m), |r| u32::from(r.number())),
+        );
+    }
+    let (fresh_a, fresh_b) = (inputs::open_proved(), inputs::open_independent());
+    let (mut a, mut b) = (fresh_a.clone(), fresh_b.clone());
+    row(
+        name,
+        sent.len(),
+        || {
+            a.clone_from(&fresh_a);
+            hear_proved(&mut a, sent)
+        },
+        || {
+            b.clone_from(&fresh_b);
+            hear_independent(&mut b, sent)
+        },
+    );
+}
+
+/// Hears again what is not later: refusal 8, after all the other tests.
+fn not_later(sent: &[Message]) {
+    let (mut a, mut b) = (inputs::open_proved(), inputs::open_independent());
+    same(
+        "refused 8",
+        hear_proved(&mut a, sent),
+        hear_independent(&mut b, sent),
+    );
+    same(
+        "refused 8",
+        hear_proved(&mut a, sent),
+        hear_independent(&mut b, sent),
+    );
+    row(
+        "hear, refused 8",
+        sent.len(),
+        || hear_proved(&mut a, sent),
+        || hear_independent(&mut b, sent),
+    );
+}
+
+/// The same messages so many minutes later.
+fn later(sent: &[Message], minutes: u32) -> Vec<Message> {
+    sent.iter()
+        .map(|m| {
+            let mut m = *m;
+            let minute = u32::from_le_bytes([m[4], m[5], m[6], m[7]]) + minutes;
+            m[4..8].copy_from_slice(&minute.to_le_bytes());
+            m
+        })
+        .collect()
+}
+
+/// Many stores, each message heard by all of them: what does not fit the caches any more.
+fn stores(count: usize) {
+    let minutes = (200_000 / count / 6).clamp(4, 400) as u32;
+    let sent = inputs::watch(minutes, 1);
+    let mut mine = vec![inputs::open_proved(); count];
+    let mut theirs = vec![inputs::open_independent(); count];
+    let (mut a, mut b) = (f64::MAX, f64::MAX);
+    for round in 0..ROUNDS {
+        let sent = later(&sent, round as u32 * minutes);
+        let calls = sent.len() * count;
+        a = a.min(time(calls, || {
+            let all = |m: &Message| {
+                mine.iter_mut()
+                    .map(|s| s.hear(black_box(m)).is_ok() as u64)
+                    .sum::<u64>()
+            };
+            sent.iter().map(all).sum()
+        }));
+        b = b.min(time(calls, || {
+            let all = |m: &Message| {
+                theirs
+                    .iter_mut()
+                    .map(|s| s.hear(black_box(m)).is_ok() as u64)
+                    .sum::<u64>()
+            };
+            sent.iter().map(all).sum()
+        }));
+    }
+    print_row(&format!("hear, {count} stores in turn"), a, b);
+}
+
+const MINUTES: u32 = 400;
+
+/// Asks at each minute; figures are added up so that no answer can be left out.
+fn ask(asked: &[u32], figure: impl Fn(u32) -> i32) -> u64 {
+    asked
+        .iter()
+        .map(|&m| figure(black_box(m)) as u64)
+        .fold(0, u64::wrapping_add)
+}
+
+fn compare_questions(a: &Store, b: &station::Store, asked: &[u32]) {
+    let mut answered = [0; 4];
+    for &m in asked {
+        let p = (a.pressure(m), b.pressure(m));
+        same("pressure", p.0.ok(), p.1.ok());
+        let t = (a.tendency(m), b.tendency(m));
+        same(
+            "tendency",
+            t.0.ok().map(|t| (t.change, t.absent)),
+            t.1.ok().map(|t| (t.change, t.absent)),
+        );
+        let w = (a.wind(m), b.wind(m));
+        same(
+            "wind",
+            w.0.ok().map(|w| (w.speed, w.direction)),
+            w.1.ok().map(|w| (w.speed, w.direction)),
+        );
+        let h = (a.humidity(m), b.humidity(m));
+        same(
+            "humidity",
+            h.0.ok().map(|h| (h.e, h.relative, h.dew)),
+            h.1.ok().map(|h| (h.e, h.relative, h.dew)),
+        );
+        let given = [p.0.is_ok(), t.0.is_ok(), w.0.is_ok(), h.0.is_ok()];
+        for (count, given) in answered.iter_mut().zip(given) {
+            *count += usize::from(given);
+        }
+    }
+    let enough = |&n: &usize| n > asked.len() / 2;
+    assert!(
+        answered.iter().all(enough),
+        "too few questions are answered: {answered:?}"
+    );
+}
+
+fn questions() {
+    let (mut a, mut b) = (inputs::open_proved(), inputs::open_independent());
+    let sent = inputs::watch(MINUTES, 1);
+    same(
+        "hear",
+        hear_proved(&mut a, &sent),
+        hear_independent(&mut b, &sent),
+    );
+    let asked: Vec<u32> = (0..20_000).map(|i| MINUTES - 1 - i * 7 % 76).collect();
+    compare_questions(&a, &b, &asked);
+    let n = asked.len();
+    row(
+        "pressure",
+        n,
+        || ask(&asked, |m| a.pressure(m).unwrap_or(0)),
+        || ask(&asked, |m| b.pressure(m).unwrap_or(0)),
+    );
+    row(
+        "tendency",
+        n,
+        || ask(&asked, |m| a.tendency(m).map_or(0, |t| t.change + t.absent)),
+        || ask(&asked, |m| b.tendency(m).map_or(0, |t| t.change + t.absent)),
+    );
+    row(
+        "wind",
+        n,
+        || ask(&asked, |m| a.wind(m).map_or(0, |w| w.speed + w.direction)),
+        || ask(&asked, |m| b.wind(m).map_or(0, |w| w.speed + w.direction)),
+    );
+    row(
+        "humidity",
+        n,
+        || {
+            ask(&asked, |m| {
+                a.humidity(m).map_or(0, |h| h.e + h.relative + h.dew)
+            })
+        },
+        || {
+            ask(&asked, |m| {
+                b.humidity(m).map_or(0, |h| h.e + h.relative + h.dew)
+            })
+        },
+    );
+    row(
+        "pressure, refused 11",
+        n,
+        || ask(&asked, |m| a.pressure(m - 300).unwrap_or(0)),
+        || ask(&asked, |m| b.pressure(m - 300).unwrap_or(0)),
+    );
+}
+
+const CALLS: usize = 500;
+
+fn times(mut call: impl FnMut() -> usize) -> u64 {
+    (0..CALLS).map(|_| call() as u64).sum()
+}
+
+fn files(count: usize) {
+    let (mine, theirs) = inputs::records(count);
+    let (mut a, mut b) = ([0; proved::LONGEST_FILE], [0; proved::LONGEST_FILE]);
+    let length = proved::write(&mine, &mut a).expect("the records are good");
+    same(
+        "write",
+        Some(length),
+        independent::write(&theirs, &mut b).ok(),
+    );
+    same("write", a, b);
+    let file = &a[..length];
+    let mut room = [independent::Record::BLANK; independent::MOST_RECORDS];
+    let read = independent::read(file, &mut room).map(|r| r.len()).ok();
+    same("read", proved::read(file).map(|r| r.len()).ok(), read);
+    let mut text = [0; proved::LISTING_ROOM];
+    let mut their_text = [0; listing::LONGEST_LISTING];
+    let listed = listing::list(file, &mut their_text);
+    same("list", proved::list(file, &mut text), &their_text[..listed]);
+
+    row(
+        &format!("read, {count} records"),
+        CALLS,
+        || times(|| proved::read(black_box(file)).map_or(0, |r| black_box(&r).len())),
+        || {
+            times(|| {
+                independent::read(black_box(file), &mut room).map_or(0, |r| black_box(r).len())
+            })
+        },
+    );
+    row(
+        &format!("read as C does, {count} records"),
+        CALLS,
+        || times(|| black_box(&raw::read(black_box(file))).count),
+        || {
+            times(|| {
+                independent::read(black_box(file), &mut room).map_or(0, |r| black_box(r).len())
+            })
+        },
+    );
+    let (mut a, mut b) = ([0; proved::LONGEST_FILE], [0; proved::LONGEST_FILE]);
+    row(
+        &format!("write, {count} records"),
+        CALLS,
+        || times(|| proved::write(black_box(&mine), black_box(&mut a)).unwrap_or(0)),
+        || times(|| independent::write(black_box(&theirs), black_box(&mut b)).unwrap_or(0)),
+    );
+    row(
+        &format!("list, {count} records"),
+        CALLS,
+        || times(|| proved::list(black_box(file), black_box(&mut text)).len()),
+        || times(|| listing::list(black_box(file), black_box(&mut their_text))),
+    );
+}
+
+fn main() {
+    println!(
+        "{:42} {:>9} {:>9} {:>9}",
+        "ns a call", "proved", "plain", "ratio"
+    );
+    let sent = inputs::watch(20_000, 1);
+    hearing("hear, each minute", &sent);
+    not_later(&sent);
+    for gap in [2, 4, 16, 64, 256, 300, 1000] {
+        hearing(
+            &format!("hear, every {gap} minutes"),
+            &inputs::watch(5_000, gap),
+        );
+    }
+    for count in [1, 16, 256, 2048] {
+        stores(count);
+    }
+    questions();
+    for count in [0, 1, 4, 16, 48] {
+        files(count);
+    }
+    println!(
+        "store, bytes: {} proved, {} plain",
+        8 * raw::WORDS,
+        std::mem::size_of::<station::Store>()
+    );
+}

@@ -1,0 +1,51 @@
+//! Humidity of every pair of dry and wet bulb at several pressures, and the dew point of every vapour pressure.
+
+use reference::vapour;
+
+use crate::files;
+use crate::pair::{tenths, Chosen, Pair};
+use crate::tally::Tally;
+
+/// Unit, reading in tenths, A in millionths.
+const AIRS: [(bool, i32, i32); 6] = [
+    (false, 10000, 662),
+    (false, 8500, 1000),
+    (false, 11000, 500),
+    (true, 7600, 662),
+    (true, 6400, 999),
+    (true, 8250, 501),
+];
+
+pub fn pairs(tally: &mut Tally) {
+    for &(mm_hg, reading, psychrometer) in &AIRS {
+        let mut chosen = Chosen::plain(mm_hg);
+        chosen.psychrometer = psychrometer;
+        let mut pair = Pair::open(tally, &chosen).expect("plain settings open");
+        let mut minute = 0;
+        for dry in -400..=500 {
+            for wet in -400..=500 {
+                minute += 1;
+                pair.hear(tally, "humidity, heard", &tenths(0, minute, reading, 0));
+                pair.hear(tally, "humidity, heard", &tenths(4, minute, dry, 0));
+                pair.hear(tally, "humidity, heard", &tenths(5, minute, wet, 0));
+                pair.humidity(tally, "humidity, pairs", minute);
+                pair.forget_but(3);
+            }
+        }
+    }
+}
+
+/// Every e that a file may hold, and some that it may not, with its dew point and the tenths beside it: both write alike, and both
+/// read alike what was or would have been written.
+pub fn dew_points(tally: &mut Tally) {
+    for e in 0..12400 {
+        let point = vapour::dew_point(e).unwrap_or(0);
+        for dew in point - 1..=point + 1 {
+            let saturation = e.max(12345);
+            let body = files::humidity_body(e, saturation, dew);
+            files::both_write(tally, "dew points, written", &[(7, body)], 1, 40);
+            let file = files::bytes_of(&[(7, body)]);
+            files::both_read(tally, "dew points, read", &file);
+        }
+    }
+}

@@ -1,0 +1,48 @@
+//! The proved library, through its static library, beside the independent implementation: the same inputs have to get the same
+//! answers. Stops at the first difference with the input that makes it.
+//!
+//! usage: compare [--long] [--only KIND] [SEED]
+
+mod files;
+mod humidity;
+mod messages;
+mod pair;
+mod random;
+mod tally;
+mod watches;
+mod wind;
+
+use random::Random;
+use tally::Tally;
+
+fn main() {
+    let (mut long, mut only, mut seed) = (false, None, 20_261_115);
+    let mut words = std::env::args().skip(1);
+    while let Some(word) = words.next() {
+        match word.as_str() {
+            "--long" => long = true,
+            "--only" => only = words.next(),
+            number => {
+                seed = number
+                    .parse()
+                    .expect("usage: compare [--long] [--only KIND] [SEED]")
+            }
+        }
+    }
+    println!(
+        "compare: seed {seed}{}",
+        if long { ", the long run" } else { "" }
+    );
+    let times = if long { 100 } else { 10 };
+    let mut tally = Tally::new(seed, only);
+    let mut r = Random::new(seed);
+    watches::openings(&mut tally, &mut r, 20_000 * times);
+    messages::compare(&mut tally, &mut r, 2_500 * times);
+    watches::compare(&mut tally, &mut r, 100 * times);
+    wind::compare(&mut tally, &mut r, 100_000 * times, 400 * times);
+    humidity::dew_points(&mut tally);
+    humidity::pairs(&mut tally);
+    files::compare(&mut tally, &mut r, 10_000 * times);
+    files::damage(&mut tally, &mut r, 4 * times);
+    tally.print();
+}

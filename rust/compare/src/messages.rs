@@ -1,0 +1,154 @@
+//! Messages: random, damaged, and bent towards every edge of a value. Each is sent beside good readings of the other channels, so
+//! that the questions then show what was kept of it.
+
+use crate::pair::{message, Chosen, Pair};
+use crate::random::Random;
+use crate::tally::Tally;
+
+/// What is sent on the channels that are not tried.
+const FIRST: [f32; 6] = [1000.0, 12.4, 8.0, 10.0, 20.0, 15.0];
+const SECOND: [f32; 6] = [0.0, 0.0, 40.0, 90.0, 0.0, 0.0];
+
+/// The limits of a channel's first value, in tenths.
+fn limits(channel: u8, mm_hg: bool) -> (i32, i32) {
+    match channel {
+        0 if mm_hg => (6400, 8250),
+        0 => (8500, 11000),
+        1 => (-400, 600),
+        2 => (0, 750),
+        3 => (0, 400),
+        _ => (-400, 500),
+    }
+}
+
+/// The pattern next to this one, or the same.
+fn beside(value: f64, r: &mut Random) -> u32 {
+    (value as f32)
+        .to_bits()
+        .wrapping_add(r.below(5) as u32)
+        .wrapping_sub(2)
+}
+
+/// A binary32 pattern for a value of tenths between limits: inside, at half a tenth, at a limit and half a tenth beside it,
+/// subnormal, huge, infinite, not a number, or any pattern at all.
+fn first_value(r: &mut Random, (low, high): (i32, i32)) -> u32 {
+    match r.below(16) {
+        0 => r.next() as u32,
+        1 => {
+            let sign = (r.next() as u32) & 0x8000_0000;
+            sign | r.pick(&[
+                0,
+                1,
+                2,
+                0x7f_fffe,
+                0x7f_ffff,
+                0x80_0000,
+                0x80_0001,
+                0x7f7f_ffff,
+                0x7f80_0000,
+                0x7f80_0001,
+                0x7fc0_0000,
+                0x7fff_ffff,
+            ])
+        }
+        2 => (r.next() as u32) & 0x807f_ffff,
+        3 => {
+            let limit = f64::from(r.pick(&[low, high])) / 10.0;
+            beside(limit + r.pick(&[-0.1, -0.05, 0.0, 0.05, 0.1]), r)
+        }
+        4 | 5 => {
+            let tenth = f64::from(r.within(low, high)) / 10.0;
+            beside(tenth + 0.05, r)
+        }
+        6 => beside(f64::from(r.within(-20, 20)) * 0.05, r),
+        7 => beside(
+            r.pick(&[
+                1e-3,
+                -1e-3,
+                429_496_729.5,
+                1e9,
+                -1e9,
+                3.4e38,
+                1e-38,
+                0.049_999_9,
+            ]),
+            r,
+        ),
+        _ => ((f64::from(r.within(low, high)) / 10.0) as f32).to_bits(),
+    }
+}
+
+/// The same for a direction in degrees.
+fn second_value(r: &mut Random) -> u32 {
+    match r.below(12) {
+        0 => first_value(r, (0, 3600)),
+        1 => beside(
+            r.pick(&[
+                -1.0, -0.5, -0.49, -0.0, 0.0, 0.49, 0.5, 359.49, 359.5, 360.0, 360.49, 360.5, 361.0,
+            ]),
+            r,
+        ),
+        2 | 3 => beside(f64::from(r.within(0, 360)) + 0.5, r),
+        4 => beside(f64::from(r.within(0, 720)) * 0.5, r),
+        _ => (r.within(0, 360) as f32).to_bits(),
+    }
+}
+
+fn tried(r: &mut Random, channel: u8, minute: u32, mm_hg: bool) -> Vec<u8> {
+    let mut m = message(channel, minute, 0.0, 0.0);
+    m[8..12].copy_from_slice(&first_value(r, limits(channel, mm_hg)).to_le_bytes());
+    if channel == 2 || channel == 3 || r.once_in(30) {
+        m[12..].copy_from_slice(&second_value(r).to_le_bytes());
+    }
+    let mut m = m.to_vec();
+    match r.below(24) {
+        0 => m[r.below(16) as usize] ^= 1 << r.below(8),
+        1 => m[r.below(4) as usize] = r.next() as u8,
+        2 => m[4..8].copy_from_slice(
+            &r.pick(&[0, 16_777_214, 16_777_215, 16_777_216, u32::MAX, 1 << 31])
+                .to_le_bytes(),
+        ),
+        3 => {
+            for _ in 0..r.below(6) {
+                m[r.below(16) as usize] = r.next() as u8;
+            }
+        }
+        4 => m.truncate(r.below(16) as usize),
+        5 => m.extend((0..=r.below(20)).map(|_| r.next() as u8)),
+        6 => m[1] = r.pick(&[0, 1, 2, 255]),
+        _ => {}
+    }
+    m
+}
+
+pub fn compare(tally: &mut Tally, r: &mut Random, rounds: u64) {
+    for _ in 0..rounds {
+        let mm_hg = r.once_in(2);
+        let mut chosen = Chosen::plain(mm_hg);
+        chosen.coefficient = r.pick(&[-50, 50, 0]);
+        let mut pair = Pair::open(tally, &chosen).expect("plain settings open");
+        let mut minute = r.pick(&[0, 200, 16_777_000]);
+        for _ in 0..40 {
+            minute += r.pick(&[1, 1, 1, 2, 180]);
+            if minute > 16_777_215 {
+                break;
+            }
+            let channel = r.below(6) as u8;
+            for other in (0..6).filter(|&c| c != channel) {
+                let first = if other == 0 && mm_hg {
+                    750.0
+                } else {
+                    FIRST[other as usize]
+                };
+                pair.hear(
+                    tally,
+                    "messages, good",
+                    &message(other, minute, first, SECOND[other as usize]),
+                );
+            }
+            let m = tried(r, channel, minute, mm_hg);
+            pair.hear(tally, "messages, tried", &m);
+            pair.ask_all(tally, "messages, what was kept", minute);
+        }
+    }
+}

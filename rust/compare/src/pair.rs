@@ -1,0 +1,235 @@
+//! A store of each side, opened alike and told the same.
+
+use reference::refusal::Refused as Independent;
+use reference::{settings, station};
+use zhitomrak::{Point, Refused, Settings, Store, Unit};
+
+use crate::tally::{Answer, Tally};
+
+/// Settings that either side can be given.
+#[derive(Clone, Debug)]
+pub struct Chosen {
+    pub mm_hg: bool,
+    pub height: i32,
+    pub difference: i32,
+    pub coefficient: i32,
+    pub psychrometer: i32,
+    pub points: Vec<(i32, i32)>,
+}
+
+impl Chosen {
+    /// Corrections that leave the reading as it is.
+    pub fn plain(mm_hg: bool) -> Chosen {
+        let (low, high) = if mm_hg { (6400, 8250) } else { (8500, 11000) };
+        Chosen {
+            mm_hg,
+            height: 0,
+            difference: 0,
+            coefficient: 0,
+            psychrometer: 662,
+            points: vec![(low, 0), (high, 0)],
+        }
+    }
+
+    fn line(&self) -> String {
+        let unit = if self.mm_hg { "mmHg" } else { "hPa" };
+        let points: String = self
+            .points
+            .iter()
+            .map(|(r, c)| format!(" {r}:{c}"))
+            .collect();
+        format!(
+            "open {unit} {} {} {} {}{points}",
+            self.height, self.difference, self.coefficient, self.psychrometer
+        )
+    }
+}
+
+pub fn proved_refusal(refused: Refused) -> Answer {
+    let (a, b) = match refused {
+        Refused::MissingReading { channel, minute } => (channel as usize, minute as usize),
+        Refused::OutsideCertificate { minute } => (minute as usize, 0),
+        Refused::BreaksRules { index } => (index, 0),
+        Refused::TooShort { bytes } => (bytes, 0),
+        Refused::Broken { place } => (place, 0),
+        _ => (0, 0),
+    };
+    Answer::Refused(refused.number(), a, b)
+}
+
+pub fn independent_refusal(refused: Independent) -> Answer {
+    let (a, b) = match refused {
+        Independent::Absent { channel, minute } => (usize::from(channel), minute as usize),
+        Independent::OutsideCertificate { minute } => (minute as usize, 0),
+        Independent::Record { index } => (index, 0),
+        Independent::Room { needed } => (needed, 0),
+        Independent::Broken { place } => (place, 0),
+        _ => (0, 0),
+    };
+    Answer::Refused(u32::from(refused.number()), a, b)
+}
+
+fn proved<T>(answer: Result<T, Refused>, figures: impl FnOnce(T) -> [i32; 5]) -> Answer {
+    answer.map_or_else(proved_refusal, |a| Answer::Given(figures(a)))
+}
+
+fn independent<T>(answer: Result<T, Independent>, figures: impl FnOnce(T) -> [i32; 5]) -> Answer {
+    answer.map_or_else(independent_refusal, |a| Answer::Given(figures(a)))
+}
+
+/// The two stores, and what they were told since they were opened.
+pub struct Pair {
+    proved: Store,
+    independent: station::Store,
+    opened: String,
+    heard: Vec<Vec<u8>>,
+}
+
+impl Pair {
+    /// Opens both and compares what that came to: a pair, where both opened.
+    pub fn open(tally: &mut Tally, chosen: &Chosen) -> Option<Pair> {
+        let certificate: Vec<Point> = chosen
+            .points
+            .iter()
+            .map(|&(reading, correction)| Point {
+                reading,
+                correction,
+            })
+            .collect();
+        let a = Store::open(&Settings {
+            unit: if chosen.mm_hg {
+                Unit::Millimetres
+            } else {
+                Unit::Hectopascals
+            },
+            height: chosen.height,
+            difference: chosen.difference,
+            coefficient: chosen.coefficient,
+            psychrometer: chosen.psychrometer,
+            certificate: &certificate,
+        });
+        let certificate: Vec<settings::Point> = chosen
+            .points
+            .iter()
+            .map(|&(reading, correction)| settings::Point {
+                reading,
+                correction,
+            })
+            .collect();
+        let b = station::Store::open(&settings::Settings {
+            unit: if chosen.mm_hg {
+                settings::Unit::MmHg
+            } else {
+                settings::Unit::HPa
+            },
+            height: chosen.height,
+            difference: chosen.difference,
+            coefficient: chosen.coefficient,
+            psychrometer: chosen.psychrometer,
+            certificate: &certificate,
+        });
+        let told = |err: Option<Answer>| err.unwrap_or(Answer::Given([0; 5]));
+        tally.answers(
+            "open",
+            told(a.as_ref().err().map(|&r| proved_refusal(r))),
+            told(b.as_ref().err().map(|&r| independent_refusal(r))),
+            || chosen.line(),
+        );
+        Some(Pair {
+            proved: a.ok()?,
+            independent: b.ok()?,
+            opened: chosen.line(),
+            heard: Vec::new(),
+        })
+    }
+
+    /// The commands of the console that lead here.
+    fn script(&self, last: String) -> String {
+        let hex = |message: &Vec<u8>| {
+            message
+                .iter()
+                .map(|b| format!("{b:02x}"))
+                .collect::<String>()
+        };
+        let heard: String = self
+            .heard
+            .iter()
+            .map(|m| format!("hear {}\n", hex(m)))
+            .collect();
+        format!("{}\n{heard}{last}", self.opened)
+    }
+
+    pub fn hear(&mut self, tally: &mut Tally, kind: &'static str, message: &[u8]) {
+        self.heard.push(message.to_vec());
+        let a = proved(self.proved.hear(message), |()| [0; 5]);
+        let b = independent(self.independent.hear(message), |()| [0; 5]);
+        tally.answers(kind, a, b, || self.script(String::new()));
+    }
+
+    pub fn pressure(&self, tally: &mut Tally, kind: &'static str, minute: u32) {
+        let a = proved(self.proved.pressure(minute), |p| [p, 0, 0, 0, 0]);
+        let b = independent(self.independent.pressure(minute), |p| [p, 0, 0, 0, 0]);
+        tally.answers(kind, a, b, || self.script(format!("pressure {minute}")));
+    }
+
+    pub fn tendency(&self, tally: &mut Tally, kind: &'static str, minute: u32) {
+        let a = proved(self.proved.tendency(minute), |t| {
+            [t.change, t.absent, 0, 0, 0]
+        });
+        let b = independent(self.independent.tendency(minute), |t| {
+            [t.change, t.absent, 0, 0, 0]
+        });
+        tally.answers(kind, a, b, || self.script(format!("tendency {minute}")));
+    }
+
+    pub fn wind(&self, tally: &mut Tally, kind: &'static str, minute: u32) {
+        let a = proved(self.proved.wind(minute), |w| {
+            [w.speed, w.direction, 0, 0, 0]
+        });
+        let b = independent(self.independent.wind(minute), |w| {
+            [w.speed, w.direction, 0, 0, 0]
+        });
+        tally.answers(kind, a, b, || self.script(format!("wind {minute}")));
+    }
+
+    pub fn humidity(&self, tally: &mut Tally, kind: &'static str, minute: u32) {
+        let a = proved(self.proved.humidity(minute), |h| {
+            [h.e, h.saturation, h.deficit, h.relative, h.dew]
+        });
+        let b = independent(self.independent.humidity(minute), |h| {
+            [h.e, h.saturation, h.deficit, h.relative, h.dew]
+        });
+        tally.answers(kind, a, b, || self.script(format!("humidity {minute}")));
+    }
+
+    pub fn ask_all(&self, tally: &mut Tally, kind: &'static str, minute: u32) {
+        self.pressure(tally, kind, minute);
+        self.tendency(tally, kind, minute);
+        self.wind(tally, kind, minute);
+        self.humidity(tally, kind, minute);
+    }
+
+    /// Only the last n messages still matter, so no more of them are remembered.
+    pub fn forget_but(&mut self, n: usize) {
+        if self.heard.len() > 2 * n {
+            self.heard.drain(..self.heard.len() - n);
+        }
+    }
+}
+
+/// A message: channel, minute and two values, little endian.
+pub fn message(channel: u8, minute: u32, first: f32, second: f32) -> [u8; 16] {
+    let mut m = [0; 16];
+    m[0] = channel;
+    m[4..8].copy_from_slice(&minute.to_le_bytes());
+    m[8..12].copy_from_slice(&first.to_le_bytes());
+    if channel == 2 || channel == 3 {
+        m[12..].copy_from_slice(&second.to_le_bytes());
+    }
+    m
+}
+
+/// A message whose values are whole tenths, and whole degrees.
+pub fn tenths(channel: u8, minute: u32, first: i32, second: i32) -> [u8; 16] {
+    message(channel, minute, first as f32 / 10.0, second as f32)
+}

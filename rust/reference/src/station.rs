@@ -1,0 +1,148 @@
+//! What a ship calls: open a store, hear messages, ask the four questions.
+
+use crate::humidity::{humidity_by, Humidity};
+use crate::message::{self, ApparentWind, Reading, ShipMotion, LAST_MINUTE};
+use crate::pressure::{self, Tendency};
+use crate::refusal::Refused;
+use crate::settings::{Instruments, Settings};
+use crate::store::{Window, THREE_HOURS};
+use crate::vapour::{vapour, Vapour};
+use crate::wind::{rose, Rose, Wind};
+
+/// The station's memory: its instruments and one window for each channel.
+/// "Channels share no window, clock or room."
+#[derive(Clone, Debug)]
+pub struct Store {
+    instruments: Instruments,
+    barometer: Window<i16>,
+    wheelhouse: Window<i16>,
+    apparent_wind: Window<ApparentWind>,
+    ship_motion: Window<ShipMotion>,
+    dry_bulb: Window<i16>,
+    wet_bulb: Window<i16>,
+    rose: &'static Rose,
+    vapour: &'static Vapour,
+}
+
+impl Store {
+    /// An empty store with these settings, or refusal 9 or 10: "a refused opening
+    /// gives no store".
+    pub fn open(settings: &Settings) -> Result<Store, Refused> {
+        Ok(Store {
+            instruments: Instruments::new(settings)?,
+            barometer: Window::new(),
+            wheelhouse: Window::new(),
+            apparent_wind: Window::new(),
+            ship_motion: Window::new(),
+            dry_bulb: Window::new(),
+            wet_bulb: Window::new(),
+            rose: rose(),
+            vapour: vapour(),
+        })
+    }
+
+    /// Keeps the message's reading, or the first of refusals 1 to 8 whose reason
+    /// holds, and then nothing has changed.
+    #[inline]
+    pub fn hear(&mut self, message: &[u8]) -> Result<(), Refused> {
+        let message::Message { minute, reading } =
+            message::receive(message, self.instruments.unit)?;
+        match reading {
+            Reading::Barometer(value) => self.barometer.accept(minute, value),
+            Reading::Wheelhouse(value) => self.wheelhouse.accept(minute, value),
+            Reading::ApparentWind(value) => self.apparent_wind.accept(minute, value),
+            Reading::ShipMotion(value) => self.ship_motion.accept(minute, value),
+            Reading::DryBulb(value) => self.dry_bulb.accept(minute, value),
+            Reading::WetBulb(value) => self.wet_bulb.accept(minute, value),
+        }
+    }
+
+    /// Sea level pressure at a minute, tenths hPa; refusals 5, 11, 12.
+    #[inline]
+    pub fn pressure(&self, minute: u32) -> Result<i32, Refused> {
+        asked(minute)?;
+        let reading = self.barometer_and_wheelhouse(minute)?;
+        self.sea_level(minute, reading)
+    }
+
+    /// "Tendency at minute m: sea level pressure at m less that at m - 180", with
+    /// the absent barometer minutes between; refusals 5, 14, 11, 12.
+    #[inline]
+    pub fn tendency(&self, minute: u32) -> Result<Tendency, Refused> {
+        asked(minute)?;
+        let before = minute
+            .checked_sub(THREE_HOURS)
+            .ok_or(Refused::NoThreeHours)?;
+        let reading_before = self.barometer_and_wheelhouse(before)?;
+        let reading = self.barometer_and_wheelhouse(minute)?;
+        let pressure_before = self.sea_level(before, reading_before)?;
+        let pressure = self.sea_level(minute, reading)?;
+        Ok(Tendency {
+            change: pressure - pressure_before,
+            absent: self.barometer.absent_before(minute) as i32,
+        })
+    }
+
+    /// True wind at a minute; refusals 5, 11.
+    #[inline]
+    pub fn wind(&self, minute: u32) -> Result<Wind, Refused> {
+        asked(minute)?;
+        let apparent = heard(&self.apparent_wind, 2, minute)?;
+        let ship = heard(&self.ship_motion, 3, minute)?;
+        Ok(self.rose.true_wind(
+            i32::from(ship.course),
+            i32::from(ship.speed),
+            i32::from(apparent.speed),
+            i32::from(apparent.from_bow),
+        ))
+    }
+
+    /// Humidity at a minute; refusals 5, 11, 12, 13, 15.
+    #[inline]
+    pub fn humidity(&self, minute: u32) -> Result<Humidity, Refused> {
+        asked(minute)?;
+        let barometer = heard(&self.barometer, 0, minute)?;
+        let dry = i32::from(heard(&self.dry_bulb, 4, minute)?);
+        let wet = i32::from(heard(&self.wet_bulb, 5, minute)?);
+        let pressure = pressure::station(&self.instruments, i32::from(barometer))
+            .ok_or(Refused::OutsideCertificate { minute })?;
+        humidity_by(
+            self.vapour,
+            dry,
+            wet,
+            pressure,
+            self.instruments.psychrometer,
+        )
+    }
+
+    /// Barometer and wheelhouse temperature of a minute, or refusal 11.
+    #[inline]
+    fn barometer_and_wheelhouse(&self, minute: u32) -> Result<(i32, i32), Refused> {
+        let barometer = heard(&self.barometer, 0, minute)?;
+        let wheelhouse = heard(&self.wheelhouse, 1, minute)?;
+        Ok((i32::from(barometer), i32::from(wheelhouse)))
+    }
+
+    /// Sea level pressure of a minute's readings, or refusal 12.
+    #[inline]
+    fn sea_level(&self, minute: u32, reading: (i32, i32)) -> Result<i32, Refused> {
+        let (barometer, wheelhouse) = reading;
+        pressure::sea_level(&self.instruments, barometer, wheelhouse)
+            .ok_or(Refused::OutsideCertificate { minute })
+    }
+}
+
+/// Refusal 5: a question about a minute that cannot be.
+#[inline]
+fn asked(minute: u32) -> Result<(), Refused> {
+    if minute > LAST_MINUTE {
+        return Err(Refused::MinuteTooLate);
+    }
+    Ok(())
+}
+
+/// The channel's reading of a minute, or refusal 11.
+#[inline]
+fn heard<T: Copy + Default>(window: &Window<T>, channel: u8, minute: u32) -> Result<T, Refused> {
+    window.at(minute).ok_or(Refused::Absent { channel, minute })
+}

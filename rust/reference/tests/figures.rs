@@ -1,0 +1,106 @@
+//! "Figures on both sides" of document 01, worked through a store from messages.
+
+mod ship;
+
+use reference::humidity::{humidity, Humidity};
+use reference::pressure::Tendency;
+use reference::refusal::Refused;
+use reference::settings::Unit;
+use reference::wind::{true_wind, Wind};
+use ship::Ship;
+
+const CERTIFICATE: [(i32, i32); 2] = [(7300, -4), (7500, -8)];
+
+fn wind(speed: i32, direction: i32) -> Wind {
+    Wind { speed, direction }
+}
+
+#[test]
+fn sea_level_pressure() {
+    for (difference, pressure) in [(0, 9900), (-268, 9864)] {
+        let mut ship = Ship::open(Unit::MmHg, 101, difference, 24, &CERTIFICATE);
+        ship.says(0, 9, 741.9);
+        ship.says(1, 9, 12.4);
+        assert_eq!(ship.store.pressure(9), Ok(pressure));
+    }
+}
+
+#[test]
+fn winds() {
+    for (course, knots, degrees, metres, expected) in [
+        (260.0, 12.5, 40.0, 2.5, wind(48, 60)),
+        (30.0, 10.0, 0.0, 0.0, wind(51, 210)),
+        (90.0, 10.0, 0.0, 5.0, wind(1, 270)),
+        (350.0, 0.0, 20.0, 8.0, wind(80, 10)),
+        (0.0, 0.0, 0.0, 10.0, wind(100, 360)),
+        (0.0, 0.0, 0.0, 0.0, wind(0, 0)),
+    ] {
+        let mut ship = Ship::plain();
+        ship.says_pair(2, 9, metres, degrees);
+        ship.says_pair(3, 9, knots, course);
+        assert_eq!(ship.store.wind(9), Ok(expected));
+        let [course, knots, metres, degrees] =
+            [course, knots * 10.0, metres * 10.0, degrees].map(|value| value as i32);
+        assert_eq!(true_wind(course, knots, metres, degrees), expected);
+    }
+}
+
+#[test]
+fn humidities() {
+    let warm = Humidity {
+        e: 1366,
+        saturation: 2335,
+        deficit: 969,
+        relative: 59,
+        dew: 116,
+    };
+    let freezing = Humidity {
+        e: 611,
+        saturation: 611,
+        deficit: 0,
+        relative: 100,
+        dew: 0,
+    };
+    let coldest = Humidity {
+        e: 19,
+        saturation: 19,
+        deficit: 0,
+        relative: 100,
+        dew: -399,
+    };
+    for (dry, wet, expected) in [
+        (20.0, 15.0, Ok(warm)),
+        (0.0, 0.0, Ok(freezing)),
+        (-40.0, -40.0, Ok(coldest)),
+        (30.0, 5.0, Err(Refused::TooDry)),
+    ] {
+        let mut ship = Ship::plain();
+        ship.says(0, 9, 1000.0);
+        ship.says(4, 9, dry);
+        ship.says(5, 9, wet);
+        assert_eq!(ship.store.humidity(9), expected);
+        let [dry, wet] = [dry, wet].map(|value: f32| (value * 10.0) as i32);
+        assert_eq!(humidity(dry, wet, 10000, 662), expected);
+    }
+}
+
+#[test]
+fn tendency_over_a_silent_watch() {
+    let mut ship = Ship::plain();
+    for (minute, pressure) in [(100, 1001.8), (280, 1000.0)] {
+        ship.says(0, minute, pressure);
+        ship.says(1, minute, 15.0);
+    }
+    let level = Tendency {
+        change: -18,
+        absent: 179,
+    };
+    assert_eq!(ship.store.tendency(280), Ok(level));
+    ship.says(0, 400, 1000.0);
+    ship.says(1, 400, 15.0);
+    let missing = Refused::Absent {
+        channel: 0,
+        minute: 220,
+    };
+    assert_eq!(ship.store.tendency(400), Err(missing));
+}

@@ -1,0 +1,227 @@
+//! The order of refusals, windows that share nothing, and document 01's slips.
+
+mod ship;
+
+use reference::message::LAST_MINUTE;
+use reference::pressure::Tendency;
+use reference::refusal::Refused;
+use reference::settings::{Settings, Unit};
+use reference::station::Store;
+use ship::{message, Ship};
+
+fn absent(channel: u8, minute: u32) -> Refused {
+    Refused::Absent { channel, minute }
+}
+
+#[test]
+fn a_minute_too_late_is_refused_first() {
+    let ship = Ship::plain();
+    for minute in [LAST_MINUTE + 1, u32::MAX] {
+        let late = Refused::MinuteTooLate;
+        assert_eq!(ship.store.pressure(minute), Err(late));
+        assert_eq!(ship.store.tendency(minute), Err(late));
+        assert_eq!(ship.store.wind(minute), Err(late));
+        assert_eq!(ship.store.humidity(minute), Err(late));
+    }
+    assert_eq!(
+        ship.store.pressure(LAST_MINUTE),
+        Err(absent(0, LAST_MINUTE))
+    );
+}
+
+#[test]
+fn tendency_below_180_is_refused_before_it_looks() {
+    let ship = Ship::plain();
+    assert_eq!(ship.store.tendency(179), Err(Refused::NoThreeHours));
+    assert_eq!(ship.store.tendency(180), Err(absent(0, 0)));
+}
+
+#[test]
+fn absent_goes_by_minute_then_channel() {
+    let mut ship = Ship::open(Unit::HPa, 0, 0, 0, &[(9000, 0), (9500, 0)]);
+    let (before, now) = (1000, 1180);
+    assert_eq!(ship.store.tendency(now), Err(absent(0, before)));
+    // Both readings of channel 0 lie outside the certificate: 12 waits for 11.
+    ship.says(0, before, 1000.0);
+    assert_eq!(ship.store.tendency(now), Err(absent(1, before)));
+    ship.says(1, before, 20.0);
+    assert_eq!(ship.store.tendency(now), Err(absent(0, now)));
+    ship.says(0, now, 1000.0);
+    assert_eq!(ship.store.tendency(now), Err(absent(1, now)));
+    ship.says(1, now, 20.0);
+    let outside = |minute| Refused::OutsideCertificate { minute };
+    assert_eq!(ship.store.tendency(now), Err(outside(before)));
+    assert_eq!(ship.store.pressure(now), Err(outside(now)));
+}
+
+#[test]
+fn the_later_reading_outside_the_certificate_is_named() {
+    let mut ship = Ship::open(Unit::HPa, 0, 0, 0, &[(9000, 0), (9500, 0)]);
+    for (minute, pressure) in [(1000, 950.0), (1180, 950.1)] {
+        ship.says(0, minute, pressure);
+        ship.says(1, minute, 20.0);
+    }
+    let outside = Refused::OutsideCertificate { minute: 1180 };
+    assert_eq!(ship.store.tendency(1180), Err(outside));
+    assert_eq!(ship.store.pressure(1000), Ok(9500));
+}
+
+#[test]
+fn wind_and_humidity_look_at_their_own_channels() {
+    let mut ship = Ship::open(Unit::HPa, 0, 0, 0, &[(9000, 0), (9500, 0)]);
+    assert_eq!(ship.store.wind(9), Err(absent(2, 9)));
+    ship.says_pair(2, 9, 10.0, 0.0);
+    assert_eq!(ship.store.wind(9), Err(absent(3, 9)));
+    assert_eq!(ship.store.humidity(9), Err(absent(0, 9)));
+    ship.says(0, 9, 1000.0);
+    assert_eq!(ship.store.humidity(9), Err(absent(4, 9)));
+    ship.says(4, 9, 5.0);
+    assert_eq!(ship.store.humidity(9), Err(absent(5, 9)));
+    ship.says(5, 9, 5.1);
+    // 12 before 13, and the wheelhouse thermometer is not missed.
+    let outside = Refused::OutsideCertificate { minute: 9 };
+    assert_eq!(ship.store.humidity(9), Err(outside));
+    ship.says(0, 10, 950.0);
+    ship.says(4, 10, 5.0);
+    ship.says(5, 10, 5.1);
+    assert_eq!(ship.store.humidity(10), Err(Refused::WetAboveDry));
+}
+
+#[test]
+fn wet_and_dry_are_compared_as_kept() {
+    let mut ship = Ship::plain();
+    ship.says(0, 9, 1000.0);
+    ship.says(4, 9, 5.01);
+    ship.says(5, 9, 5.04);
+    assert_eq!(ship.store.humidity(9).unwrap().relative, 100);
+}
+
+#[test]
+fn tendency_is_the_difference_of_two_rounded_pressures() {
+    let mut ship = Ship::open(Unit::MmHg, 0, 0, 0, &[(6400, 0), (8250, 0)]);
+    for (minute, pressure) in [(0, 750.0), (180, 750.1)] {
+        ship.says(0, minute, pressure);
+        ship.says(1, minute, 20.0);
+    }
+    // 999.9 and 1000.03332 hPa: 1 tenth apart, as 0.1 mm Hg is 0.13332 hPa.
+    let rise = |change| Tendency {
+        change,
+        absent: 179,
+    };
+    assert_eq!(ship.store.tendency(180), Ok(rise(1)));
+    ship.says(0, 181, 750.4);
+    ship.says(1, 181, 20.0);
+    ship.says(0, 361, 750.5);
+    ship.says(1, 361, 20.0);
+    // 1000.43328 and 1000.5666: 1000.4 and 1000.6, 2 tenths apart.
+    let answer = ship.store.tendency(361).unwrap();
+    assert_eq!(answer, rise(2));
+}
+
+#[test]
+fn each_correction_is_rounded_by_itself() {
+    // Scale 0.05, temperature 0.05 and height 0.05: each becomes 0.1.
+    let mut ship = Ship::open(Unit::MmHg, 5, 0, 5, &[(7000, 0), (7002, 1)]);
+    ship.says(0, 9, 700.1);
+    ship.says(1, 9, 10.0);
+    // 700.4 times 1.3332 is 933.77
+    assert_eq!(ship.store.pressure(9), Ok(9338));
+}
+
+#[test]
+fn humidity_takes_the_station_pressure() {
+    let settings = [(8500, 0), (11000, 0)];
+    let mut low = Ship::open(Unit::HPa, 0, 0, 0, &settings);
+    let mut high = Ship::open(Unit::HPa, 600, 300, 50, &settings);
+    for ship in [&mut low, &mut high] {
+        ship.says(0, 9, 1000.0);
+        ship.says(1, 9, 60.0);
+        ship.says(4, 9, 50.0);
+        ship.says(5, 9, 30.0);
+    }
+    assert_ne!(low.store.pressure(9), high.store.pressure(9));
+    assert_eq!(low.store.humidity(9), high.store.humidity(9));
+}
+
+#[test]
+fn humidity_in_mm_hg_takes_rounded_hectopascals() {
+    let mut ship = Ship::open(Unit::MmHg, 0, 0, 0, &[(6400, 3), (8250, 3)]);
+    ship.says(0, 9, 749.8);
+    ship.says(4, 9, 34.0);
+    ship.says(5, 9, 22.0);
+    // 750.1 times 1.3332 is 1000.03332; unrounded it would give an e of 18.25.
+    assert_eq!(ship.store.humidity(9).unwrap().e, 1826);
+}
+
+#[test]
+fn one_channel_moves_no_other_window() {
+    let mut ship = Ship::plain();
+    for channel in [0, 1, 4, 5] {
+        ship.says(channel, 9, if channel == 0 { 1000.0 } else { 5.0 });
+    }
+    ship.says_pair(2, 9, 5.0, 0.0);
+    ship.says_pair(3, 5000, 0.0, 0.0);
+    assert_eq!(ship.store.pressure(9), Ok(10000));
+    assert!(ship.store.humidity(9).is_ok());
+    assert_eq!(ship.store.wind(9), Err(absent(3, 9)));
+    ship.says(1, 5000, 5.0);
+    assert_eq!(ship.store.pressure(9), Err(absent(1, 9)));
+    assert!(ship.store.humidity(9).is_ok());
+}
+
+#[test]
+fn a_refused_message_changes_nothing() {
+    let mut ship = Ship::plain();
+    ship.says(0, 300, 1000.0);
+    ship.says(1, 300, 20.0);
+    let mut wrong = message(0, 301, 1000.0, 0.0);
+    wrong[2] = 1;
+    assert_eq!(ship.store.hear(&wrong), Err(Refused::NotZero));
+    let tries = [
+        (ship.tries(0, 301, 1101.0, 0.0), Refused::OutsideLimits),
+        (ship.tries(0, 301, f32::NAN, 0.0), Refused::NotFinite),
+        (ship.tries(0, 300, 900.0, 0.0), Refused::NotLater),
+        (ship.tries(0, 299, 900.0, 0.0), Refused::NotLater),
+        // 7 before 8.
+        (ship.tries(0, 299, 1101.0, 0.0), Refused::OutsideLimits),
+        (
+            ship.tries(0, LAST_MINUTE + 1, 900.0, 0.0),
+            Refused::MinuteTooLate,
+        ),
+    ];
+    for (answer, refused) in tries {
+        assert_eq!(answer, Err(refused));
+    }
+    assert_eq!(ship.store.pressure(300), Ok(10000));
+    assert_eq!(ship.store.pressure(301), Err(absent(0, 301)));
+    ship.says(0, 301, 1000.0);
+}
+
+#[test]
+fn the_absent_count_is_of_the_barometer_between_the_two() {
+    let mut ship = Ship::plain();
+    for minute in 99..=281 {
+        if minute % 3 == 1 || !(101..=279).contains(&minute) {
+            ship.says(0, minute, 1000.0);
+        }
+    }
+    for minute in [100, 280] {
+        ship.says(1, minute, 20.0);
+    }
+    // Of 101 to 279 the 59 minutes 103, 106, .. 277 are present.
+    let answer = ship.store.tendency(280).unwrap();
+    assert_eq!(answer.absent, 179 - 59);
+}
+
+#[test]
+fn a_refused_opening_gives_no_store() {
+    let settings = Settings {
+        unit: Unit::HPa,
+        height: 0,
+        difference: 0,
+        coefficient: 0,
+        psychrometer: 662,
+        certificate: &[],
+    };
+    assert_eq!(Store::open(&settings).err(), Some(Refused::Certificate));
+}

@@ -1,0 +1,72 @@
+//! A ship that sends messages to its store.
+
+#![allow(dead_code)] // each test file uses its own part
+
+use reference::refusal::Refused;
+use reference::settings::{Point, Settings, Unit, USUAL_PSYCHROMETER};
+use reference::station::Store;
+
+pub struct Ship {
+    pub store: Store,
+}
+
+/// A message by channel, minute and two values.
+pub fn message(channel: u8, minute: u32, first: f32, second: f32) -> Vec<u8> {
+    let mut bytes = vec![channel, 0, 0, 0];
+    bytes.extend(minute.to_le_bytes());
+    bytes.extend(first.to_le_bytes());
+    bytes.extend(second.to_le_bytes());
+    bytes
+}
+
+impl Ship {
+    pub fn open(
+        unit: Unit,
+        height: i32,
+        difference: i32,
+        coefficient: i32,
+        points: &[(i32, i32)],
+    ) -> Ship {
+        let certificate: Vec<Point> = points
+            .iter()
+            .map(|&(reading, correction)| Point {
+                reading,
+                correction,
+            })
+            .collect();
+        let settings = Settings {
+            unit,
+            height,
+            difference,
+            coefficient,
+            psychrometer: USUAL_PSYCHROMETER,
+            certificate: &certificate,
+        };
+        Ship {
+            store: Store::open(&settings).expect("the settings are right"),
+        }
+    }
+
+    /// A ship in hPa whose corrections are all 0.
+    pub fn plain() -> Ship {
+        Ship::open(Unit::HPa, 0, 0, 0, &[(8500, 0), (11000, 0)])
+    }
+
+    pub fn says(&mut self, channel: u8, minute: u32, value: f32) {
+        self.says_pair(channel, minute, value, 0.0);
+    }
+
+    pub fn says_pair(&mut self, channel: u8, minute: u32, first: f32, second: f32) {
+        assert_eq!(self.tries(channel, minute, first, second), Ok(()));
+    }
+
+    pub fn tries(
+        &mut self,
+        channel: u8,
+        minute: u32,
+        first: f32,
+        second: f32,
+    ) -> Result<(), Refused> {
+        self.store.hear(&message(channel, minute, first, second))
+    }
+}

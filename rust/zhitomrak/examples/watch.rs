@@ -1,0 +1,123 @@
+//! A watch of four hours through the Rust crate: instruments are heard each minute with a gap, the four questions are asked, the
+//! answers go into a watch file, and the file is listed.
+
+use std::io::Write;
+
+use zhitomrak::watchfile::{self, Body, Record, LISTING_ROOM, LONGEST_FILE};
+use zhitomrak::{Point, Refused, Settings, Store, Unit};
+
+/// A message: channel, minute and binary32 values, little endian.
+fn send(store: &mut Store, channel: u8, minute: u32, first: f32, second: f32) {
+    let mut message = [0; 16];
+    message[0] = channel;
+    message[4..8].copy_from_slice(&minute.to_le_bytes());
+    message[8..12].copy_from_slice(&first.to_le_bytes());
+    message[12..].copy_from_slice(&second.to_le_bytes());
+    if let Err(refused) = store.hear(&message) {
+        println!("channel {channel}, minute {minute}: {refused}");
+    }
+}
+
+/// The instruments of one minute.
+fn minute_passes(store: &mut Store, minute: u32) {
+    let falls = minute as f32 * 0.03;
+    // a quarter of an hour without barometer
+    if !(60..75).contains(&minute) {
+        send(store, 0, minute, 741.9 - falls, 0.0);
+    }
+    send(store, 1, minute, 12.4, 0.0);
+    send(store, 2, minute, 2.5, 40.0);
+    send(store, 3, minute, 12.5, 260.0);
+    send(store, 4, minute, 20.0, 0.0);
+    send(store, 5, minute, 15.0, 0.0);
+}
+
+fn main() -> Result<(), Refused> {
+    let certificate = [
+        Point {
+            reading: 7300,
+            correction: -4,
+        },
+        Point {
+            reading: 7500,
+            correction: -8,
+        },
+    ];
+    let mut settings = Settings {
+        unit: Unit::Millimetres,
+        height: 601,
+        difference: 0,
+        coefficient: 24,
+        psychrometer: 662,
+        certificate: &certificate,
+    };
+    let told = |opening: &Result<Store, Refused>| {
+        opening.as_ref().err().map_or(0, |refused| refused.number())
+    };
+    println!("open: {}", told(&Store::open(&settings)));
+    settings.height = 101;
+    let opening = Store::open(&settings);
+    println!("open: {}", told(&opening));
+    let mut store = opening?;
+    for minute in 0..=240 {
+        minute_passes(&mut store, minute);
+    }
+    // not later than the newest
+    send(&mut store, 0, 240, 741.9, 0.0);
+
+    if let Err(Refused::MissingReading { channel, minute }) = store.pressure(70) {
+        println!("refused 11, channel {channel}, minute {minute}");
+    }
+    let pressure = store.pressure(240)?;
+    let tendency = store.tendency(230)?;
+    let wind = store.wind(240)?;
+    let humidity = store.humidity(240)?;
+    println!("pressure {pressure}");
+    println!("tendency {}, {} absent", tendency.change, tendency.absent);
+    println!("wind {} from {}", wind.speed, wind.direction);
+    println!(
+        "humidity {} {} {} {} {}",
+        humidity.e, humidity.saturation, humidity.deficit, humidity.relative, humidity.dew
+    );
+
+    let records = [
+        Record {
+            minute: 230,
+            body: Body::Tendency(tendency),
+        },
+        Record {
+            minute: 240,
+            body: Body::Pressure(pressure),
+        },
+        Record {
+            minute: 240,
+            body: Body::Wind(wind),
+        },
+        Record {
+            minute: 240,
+            body: Body::Humidity(humidity),
+        },
+    ];
+    let mut file = [0; LONGEST_FILE];
+    if let Err(Refused::TooShort { bytes }) = watchfile::write(&records, &mut file[..10]) {
+        println!("write: refused 17, {bytes} bytes needed");
+    }
+    let length = watchfile::write(&records, &mut file)?;
+    println!("written: {length} bytes");
+
+    let read = watchfile::read(&file[..length])?;
+    println!(
+        "read: {} records, the last of minute {}",
+        read.len(),
+        read[read.len() - 1].minute
+    );
+    let mut room = [0; LISTING_ROOM];
+    let mut out = std::io::stdout();
+    out.write_all(watchfile::list(&file[..length], &mut room))
+        .unwrap();
+    // a damaged dew point
+    file[length - 1] ^= 1;
+    out.write_all(watchfile::list(&file[..length], &mut room))
+        .unwrap();
+    Ok(())
+}

@@ -1,0 +1,166 @@
+//! A store: opened with settings, it hears messages and is asked.
+
+use crate::raw;
+use crate::refusal::{asked, numbered, Refused};
+
+/// The barometer's unit.
+#[derive(Clone, Copy, Debug, PartialEq, Eq)]
+pub enum Unit {
+    /// Hectopascals.
+    Hectopascals,
+    /// Millimetres of mercury.
+    Millimetres,
+}
+
+/// A point of the barometer's certificate, in tenths of its unit.
+#[derive(Clone, Copy, Debug, Default, PartialEq, Eq)]
+pub struct Point {
+    /// The reading.
+    pub reading: i32,
+    /// What is added to it.
+    pub correction: i32,
+}
+
+/// The settings of a store, right or wrong.
+#[derive(Clone, Copy, Debug)]
+pub struct Settings<'points> {
+    /// The barometer's unit.
+    pub unit: Unit,
+    /// Its height, 0 to 600 tenths of a metre.
+    pub height: i32,
+    /// The sea level's difference, -300 to 300 tenths of a metre, negative when the closed sea lies lower.
+    pub difference: i32,
+    /// The temperature coefficient, -50 to 50 thousandths of the unit per °C.
+    pub coefficient: i32,
+    /// The psychrometer's coefficient A, 500 to 1000 millionths; 662 when the passport gives none.
+    pub psychrometer: i32,
+    /// 2 to 16 points, readings within the barometer's limits and strictly rising, corrections -50 to 50.
+    pub certificate: &'points [Point],
+}
+
+/// A change of pressure in three hours.
+#[derive(Clone, Copy, Debug, PartialEq, Eq)]
+pub struct Tendency {
+    /// Tenths of hPa.
+    pub change: i32,
+    /// How many of the 179 minutes strictly between have no barometer reading.
+    pub absent: i32,
+}
+
+/// The true wind.
+#[derive(Clone, Copy, Debug, PartialEq, Eq)]
+pub struct Wind {
+    /// Tenths of m/s.
+    pub speed: i32,
+    /// The degrees that it comes from, 1 to 360; 0 in a calm.
+    pub direction: i32,
+}
+
+/// Humidity by the psychrometer.
+#[derive(Clone, Copy, Debug, PartialEq, Eq)]
+pub struct Humidity {
+    /// Vapour pressure, hundredths of hPa.
+    pub e: i32,
+    /// Saturation at the dry bulb, hundredths of hPa.
+    pub saturation: i32,
+    /// Saturation less vapour pressure.
+    pub deficit: i32,
+    /// Percent.
+    pub relative: i32,
+    /// Dew point, tenths of °C.
+    pub dew: i32,
+}
+
+/// A figure of an opened store fits four bytes many times over: pressures lie within 8000 and 11500, every other figure is smaller.
+#[inline]
+fn figure<T: TryInto<i32>>(n: T) -> i32 {
+    n.try_into().unwrap_or(i32::MAX)
+}
+
+/// A store that was opened. It owns its block of 1588 words, and shares nothing with another.
+#[derive(Clone)]
+pub struct Store {
+    block: Box<[u64; raw::WORDS]>,
+}
+
+impl Store {
+    /// An empty store with these settings; or [`Refused::Setting`], else [`Refused::Certificate`], and no store.
+    pub fn open(settings: &Settings) -> Result<Store, Refused> {
+        let mut points = [raw::Point::default(); raw::POINTS];
+        for (to, point) in points.iter_mut().zip(settings.certificate) {
+            *to = raw::Point {
+                reading: point.reading,
+                correction: point.correction,
+            };
+        }
+        let unit = match settings.unit {
+            Unit::Hectopascals => 0,
+            Unit::Millimetres => 1,
+        };
+        let mut block = Box::new([0; raw::WORDS]);
+        numbered(raw::open(
+            &mut block,
+            raw::Settings {
+                unit,
+                height: settings.height,
+                difference: settings.difference,
+                coefficient: settings.coefficient,
+                psychrometer: settings.psychrometer,
+                count: settings.certificate.len().try_into().unwrap_or(u32::MAX),
+                points,
+            },
+        ))?;
+        Ok(Store { block })
+    }
+
+    /// Hears a message of instruments, 16 bytes, and keeps its reading; or the first of refusals 1 to 8 whose reason holds, and
+    /// nothing has changed.
+    #[inline]
+    pub fn hear(&mut self, message: &[u8]) -> Result<(), Refused> {
+        numbered(raw::hear(&mut self.block, message))
+    }
+
+    /// The pressure at sea level at a minute, tenths of hPa; refusals 5, 11, 12.
+    #[inline]
+    pub fn pressure(&self, minute: u32) -> Result<i32, Refused> {
+        let told = raw::pressure(&self.block, minute);
+        asked(told.refusal)?;
+        Ok(figure(told.pressure))
+    }
+
+    /// That pressure less the one 180 minutes before, and the absent minutes between; refusals 5, 14, 11, 12.
+    #[inline]
+    pub fn tendency(&self, minute: u32) -> Result<Tendency, Refused> {
+        let told = raw::tendency(&self.block, minute);
+        asked(told.refusal)?;
+        Ok(Tendency {
+            change: figure(told.change),
+            absent: figure(told.absent),
+        })
+    }
+
+    /// The true wind at a minute; refusals 5, 11.
+    #[inline]
+    pub fn wind(&self, minute: u32) -> Result<Wind, Refused> {
+        let told = raw::wind(&self.block, minute);
+        asked(told.refusal)?;
+        Ok(Wind {
+            speed: figure(told.speed),
+            direction: figure(told.direction),
+        })
+    }
+
+    /// Humidity at a minute; refusals 5, 11, 12, 13, 15.
+    #[inline]
+    pub fn humidity(&self, minute: u32) -> Result<Humidity, Refused> {
+        let told = raw::humidity(&self.block, minute);
+        asked(told.refusal)?;
+        Ok(Humidity {
+            e: figure(told.e),
+            saturation: figure(told.saturation),
+            deficit: figure(told.deficit),
+            relative: figure(told.relative),
+            dew: told.dew,
+        })
+    }
+}
