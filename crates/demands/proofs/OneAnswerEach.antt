@@ -107,11 +107,34 @@ use Rattle.text.proofs.put_byte.Reads as text-put-byte
 use Rattle.text.proofs.put_natural.Reads as text-put-natural
 use Rattle.text.proofs.put_number.Reads as text-put-number
 use Rattle.text.proofs.put_bytes.Reads as text-put-bytes
+use Rattle.text.proofs.put_field.Reads as text-put-field
+use Rattle.text.proofs.put_signed.Reads as text-put-signed
 use Rattle.listing.proofs.SingleAnswers as listing
 use Rattle.listing.proofs.list.Reads as listing-list
+use Rattle.answer.proofs.SingleAnswers as answer
+use Rattle.answer.proofs.put_line.Reads as answer-put-line
+use Rattle.answer.proofs.put_opening.Reads as answer-put-opening
+use Rattle.answer.proofs.put_hearing.Reads as answer-put-hearing
+use Rattle.answer.proofs.put_pressure.Reads as answer-put-pressure
+use Rattle.answer.proofs.put_tendency.Reads as answer-put-tendency
+use Rattle.answer.proofs.put_wind.Reads as answer-put-wind
+use Rattle.answer.proofs.put_humidity.Reads as answer-put-humidity
+use Rattle.answer.proofs.put_written.Reads as answer-put-written
+use Rattle.command.proofs.SingleAnswers as command
+use Rattle.command.proofs.parse.Reads as command-parse
+use Rattle.command.proofs.open_line.Reads as command-open-line
+use Rattle.command.proofs.write_line.Reads as command-write-line
+use Rattle.command.proofs.unhex.Reads as command-unhex
 use Rattle.zhitomrak.proofs.SingleAnswers as zhitomrak
+use Rattle.zhitomrak.proofs.zhitomrak_open.Reads as zhitomrak-zhitomrak-open
 use Rattle.zhitomrak.proofs.zhitomrak_hear.Reads as zhitomrak-zhitomrak-hear
-use Rattle.zhitomrak.proofs.zhitomrak_missing_minutes.Reads as zhitomrak-zhitomrak-missing-minutes
+use Rattle.zhitomrak.proofs.zhitomrak_pressure.Reads as zhitomrak-zhitomrak-pressure
+use Rattle.zhitomrak.proofs.zhitomrak_tendency.Reads as zhitomrak-zhitomrak-tendency
+use Rattle.zhitomrak.proofs.zhitomrak_wind.Reads as zhitomrak-zhitomrak-wind
+use Rattle.zhitomrak.proofs.zhitomrak_humidity.Reads as zhitomrak-zhitomrak-humidity
+use Rattle.zhitomrak.proofs.zhitomrak_read.Reads as zhitomrak-zhitomrak-read
+use Rattle.zhitomrak.proofs.zhitomrak_write.Reads as zhitomrak-zhitomrak-write
+use Rattle.zhitomrak.proofs.zhitomrak_list.Reads as zhitomrak-zhitomrak-list
 
 pub record OneAnswerEach : Type 0 where
   -- number
@@ -230,13 +253,50 @@ pub record OneAnswerEach : Type 0 where
   pub text-put-number-left : SingleLeft text-put-number.Post (λ κs s. s .0 .now)
   pub text-put-bytes-single : Single text-put-bytes.Post
   pub text-put-bytes-left : SingleLeft text-put-bytes.Post (λ κs s. s .0 .now)
+  pub text-put-field-single : Single text-put-field.Post
+  pub text-put-field-left : SingleLeft text-put-field.Post (λ κs s. s .0 .now)
+  pub text-put-signed-single : Single text-put-signed.Post
+  pub text-put-signed-left : SingleLeft text-put-signed.Post (λ κs s. s .0 .now)
   -- listing
   pub listing-list-single : Single listing-list.Post
   pub listing-list-left : SingleLeft listing-list.Post (λ κs s. s .1 .0 .now)
+  -- answer
+  pub answer-put-line-single : Single answer-put-line.Post
+  pub answer-put-line-left : SingleLeft answer-put-line.Post (λ κs s. s .0 .now)
+  pub answer-put-opening-single : Single answer-put-opening.Post
+  pub answer-put-opening-left : SingleLeft answer-put-opening.Post (λ κs s. s .0 .now)
+  pub answer-put-hearing-single : Single answer-put-hearing.Post
+  pub answer-put-hearing-left : SingleLeft answer-put-hearing.Post (λ κs s. s .0 .now)
+  pub answer-put-pressure-single : Single answer-put-pressure.Post
+  pub answer-put-pressure-left : SingleLeft answer-put-pressure.Post (λ κs s. s .0 .now)
+  pub answer-put-tendency-single : Single answer-put-tendency.Post
+  pub answer-put-tendency-left : SingleLeft answer-put-tendency.Post (λ κs s. s .0 .now)
+  pub answer-put-wind-single : Single answer-put-wind.Post
+  pub answer-put-wind-left : SingleLeft answer-put-wind.Post (λ κs s. s .0 .now)
+  pub answer-put-humidity-single : Single answer-put-humidity.Post
+  pub answer-put-humidity-left : SingleLeft answer-put-humidity.Post (λ κs s. s .0 .now)
+  pub answer-put-written-single : Single answer-put-written.Post
+  pub answer-put-written-left : SingleLeft answer-put-written.Post (λ κs s. s .0 .now)
+  -- command
+  pub command-parse-single : Single command-parse.Post
+  pub command-open-line-single : Single command-open-line.Post
+  pub command-write-line-single : Single command-write-line.Post
+  pub command-unhex-single : Single command-unhex.Post
+  pub command-unhex-left : SingleLeft command-unhex.Post (λ κs s. s .1 .0 .now)
   -- zhitomrak
+  pub zhitomrak-zhitomrak-open-single : Single zhitomrak-zhitomrak-open.Post
+  pub zhitomrak-zhitomrak-open-left : SingleLeft zhitomrak-zhitomrak-open.Post (λ κs s. s .0 .now)
   pub zhitomrak-zhitomrak-hear-single : Single zhitomrak-zhitomrak-hear.Post
   pub zhitomrak-zhitomrak-hear-left : SingleLeft zhitomrak-zhitomrak-hear.Post (λ κs s. s .0 .now)
-  pub zhitomrak-zhitomrak-missing-minutes-single : Single zhitomrak-zhitomrak-missing-minutes.Post
+  pub zhitomrak-zhitomrak-pressure-single : Single zhitomrak-zhitomrak-pressure.Post
+  pub zhitomrak-zhitomrak-tendency-single : Single zhitomrak-zhitomrak-tendency.Post
+  pub zhitomrak-zhitomrak-wind-single : Single zhitomrak-zhitomrak-wind.Post
+  pub zhitomrak-zhitomrak-humidity-single : Single zhitomrak-zhitomrak-humidity.Post
+  pub zhitomrak-zhitomrak-read-single : Single zhitomrak-zhitomrak-read.Post
+  pub zhitomrak-zhitomrak-write-single : Single zhitomrak-zhitomrak-write.Post
+  pub zhitomrak-zhitomrak-write-left : SingleLeft zhitomrak-zhitomrak-write.Post (λ κs s. s .0 .now)
+  pub zhitomrak-zhitomrak-list-single : Single zhitomrak-zhitomrak-list.Post
+  pub zhitomrak-zhitomrak-list-left : SingleLeft zhitomrak-zhitomrak-list.Post (λ κs s. s .1 .0 .now)
 
 pub one-answer-each : OneAnswerEach
 one-answer-each =
@@ -341,9 +401,44 @@ one-answer-each =
       text-put-number-left = text.single-put-number-text;
       text-put-bytes-single = text.single-put-bytes;
       text-put-bytes-left = text.single-put-bytes-text;
+      text-put-field-single = text.single-put-field;
+      text-put-field-left = text.single-put-field-text;
+      text-put-signed-single = text.single-put-signed;
+      text-put-signed-left = text.single-put-signed-text;
       listing-list-single = listing.single-list;
       listing-list-left = listing.single-list-text;
+      answer-put-line-single = answer.single-put-line;
+      answer-put-line-left = answer.single-put-line-text;
+      answer-put-opening-single = answer.single-put-opening;
+      answer-put-opening-left = answer.single-put-opening-text;
+      answer-put-hearing-single = answer.single-put-hearing;
+      answer-put-hearing-left = answer.single-put-hearing-text;
+      answer-put-pressure-single = answer.single-put-pressure;
+      answer-put-pressure-left = answer.single-put-pressure-text;
+      answer-put-tendency-single = answer.single-put-tendency;
+      answer-put-tendency-left = answer.single-put-tendency-text;
+      answer-put-wind-single = answer.single-put-wind;
+      answer-put-wind-left = answer.single-put-wind-text;
+      answer-put-humidity-single = answer.single-put-humidity;
+      answer-put-humidity-left = answer.single-put-humidity-text;
+      answer-put-written-single = answer.single-put-written;
+      answer-put-written-left = answer.single-put-written-text;
+      command-parse-single = command.single-parse;
+      command-open-line-single = command.single-open-line;
+      command-write-line-single = command.single-write-line;
+      command-unhex-single = command.single-unhex;
+      command-unhex-left = command.single-unhex-bytes;
+      zhitomrak-zhitomrak-open-single = zhitomrak.single-open;
+      zhitomrak-zhitomrak-open-left = zhitomrak.single-open-left;
       zhitomrak-zhitomrak-hear-single = zhitomrak.single-hear;
       zhitomrak-zhitomrak-hear-left = zhitomrak.single-hear-left;
-      zhitomrak-zhitomrak-missing-minutes-single = zhitomrak.single-missing-minutes;
+      zhitomrak-zhitomrak-pressure-single = zhitomrak.single-pressure;
+      zhitomrak-zhitomrak-tendency-single = zhitomrak.single-tendency;
+      zhitomrak-zhitomrak-wind-single = zhitomrak.single-wind;
+      zhitomrak-zhitomrak-humidity-single = zhitomrak.single-humidity;
+      zhitomrak-zhitomrak-read-single = zhitomrak.single-read;
+      zhitomrak-zhitomrak-write-single = zhitomrak.single-write;
+      zhitomrak-zhitomrak-write-left = zhitomrak.single-write-left;
+      zhitomrak-zhitomrak-list-single = zhitomrak.single-list;
+      zhitomrak-zhitomrak-list-left = zhitomrak.single-list-left;
     }
