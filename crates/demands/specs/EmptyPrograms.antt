@@ -76,6 +76,14 @@ pressureIn p u = pressureAs (p .pressure (block p u) (u .minute))
 abbrev pub tendencyIn : Program → Use → Answer Numbered Change
 tendencyIn p u = tendencyAs (p .tendency (block p u) (u .minute))
 
+-- its change alone
+abbrev pub changeOf : Answer Numbered Change → Answer Numbered ℤ
+changeOf (refused n) = refused n
+changeOf (given t) = given (t .change)
+
+abbrev pub changeIn : Program → Use → Answer Numbered ℤ
+changeIn p u = changeOf (tendencyIn p u)
+
 abbrev pub windIn : Program → Use → Answer Numbered TrueWind
 windIn p u = windAs (p .wind (block p u) (u .minute))
 
@@ -91,10 +99,6 @@ Refuses ask = (u : Use) → (n : Numbered) × (ask u ≡ refused n)
 -- "one with a constant answer": wherever it gives figures, they are the same.
 abbrev pub Constant : {A : Type 0} → (Use → Answer Numbered A) → Type 0
 Constant {A} ask = (u v : Use) (x y : A) → ask u ≡ given x → ask v ≡ given y → x ≡ y
-
--- of a tendency the change alone
-abbrev pub ConstantChange : Program → Type 0
-ConstantChange p = (u v : Use) (x y : Change) → tendencyIn p u ≡ given x → tendencyIn p v ≡ given y → x .change ≡ y .change
 
 -- The same use with one message more.
 abbrev pub after : Use → List ℕ → Use
@@ -122,7 +126,7 @@ pub record NoEmptyProgram (p : Program) : Type 0 where
   pub wind-not-refused : Refuses (windIn p) → ⊥
   pub humidity-not-refused : Refuses (humidityIn p) → ⊥
   pub pressure-not-constant : Constant (pressureIn p) → ⊥
-  pub tendency-not-constant : ConstantChange p → ⊥
+  pub change-not-constant : Constant (changeIn p) → ⊥
   pub wind-not-constant : Constant (windIn p) → ⊥
   pub humidity-not-constant : Constant (humidityIn p) → ⊥
   pub stores-something : StoresNothing p → ⊥

@@ -1,0 +1,188 @@
+-- A watch, and what document 01 answers on it to each question, by computation. Assumes nothing.
+use mathlib.Core.Path.{_≡_, refl, ap}
+use mathlib.Core.Bool.{true, cond}
+use mathlib.Core.List.{List, [], _∷_, _++_}
+use Prim.Native.Nat.{ℕ, _/_, _%_}
+use lib.Dec.{T}
+use lib.Ieee.{ofBits}
+use lib.IntN.{ℤ, pos, negℤ}
+use Rattle.number.specs.Round.{nearest, rounded}
+use Rattle.number.specs.Refusal.{numbered, refused, given, answer}
+use Rattle.quantity.specs.Limits.{inside, bulb}
+use Rattle.quantity.specs.declared.BarometerUnit.the-variants as unit
+use Rattle.quantity.specs.declared.Hectopascals.{Hectopascals}
+use Rattle.message.specs.Value.{toWhole}
+use Rattle.message.specs.Receive.{received}
+use Rattle.settings.specs.Settings.{checked, every, certificateHolds, othersHold}
+use Rattle.settings.specs.declared.Settings.{Settings}
+use Rattle.settings.specs.declared.Point.{Point}
+use Rattle.window.specs.Window.{absents}
+use Rattle.store.specs.Block.{hearing, outcome}
+use Rattle.store.specs.History.{history, remembered, store-of}
+use Rattle.sine.specs.Sines.{sines}
+use Rattle.sine.specs.Sine.{fold, size, sine, cosine}
+use Rattle.pressure.specs.Pressure.{scaleFrom, scale, outside, temperature, height, seaLevel, stationPressure}
+use Rattle.wind.specs.Wind.{sum, N, M, meets, count, between, turned, compass, from}
+use Rattle.wind.specs.Answer.{withinLimits}
+use Rattle.wind.proofs.WindTest.{isNearest, isWind, tested}
+use Rattle.vapour.specs.Vapour.{water, IsTable}
+use Rattle.vapour.proofs.SaturationLaws.{near-test, near-by-test, near-one}
+use Rattle.vapour.proofs.DewLaws.{dew-test, dew-by-test}
+use Rattle.humidity.specs.Humidity.{vapourPressure, tooDry}
+use Rattle.humidity.specs.declared.HumidityFigures.{HumidityFigures}
+use Rattle.station.specs.Source.{heard}
+use Rattle.station.specs.Questions.{Answers}
+use Rattle.station.specs.Told.{TellsPressure, TellsTendency, TellsWind, TellsHumidity}
+use Rattle.station.specs.declared.QuestionRefusal.the-variants.{MissingReading}
+use Rattle.station.specs.declared.PressureAnswer.the-variants as pressed
+use Rattle.station.specs.declared.TendencyAnswer.the-variants as changed
+use Rattle.station.specs.declared.WindAnswer.the-variants as blew
+use Rattle.station.specs.declared.HumidityAnswer.the-variants as moist
+use Rattle.station.proofs.RefusalsInOrder.{message-by-messages}
+
+-- ---- settings and messages
+
+abbrev point : ℕ → Point
+point reading = record { reading = record { v = pos reading }; correction = record { 0 = record { v = pos 0 } } }
+
+-- In hPa at sea level; certificate 850.0:0, 1100.0:0; A 662.
+abbrev pub ship : Settings
+ship =
+    record {
+      unit = unit.Hectopascals;
+      height = record { 0 = record { v = pos 0 } };
+      difference = record { 0 = record { v = pos 0 } };
+      coefficient = record { 0 = record { v = pos 0 } };
+      psychrometer = record { 0 = record { v = pos 662 } };
+      count = 2;
+      points = point 8500 ∷ point 11000 ∷ [];
+    }
+
+-- Four bytes of a number; the message of a channel at a minute with the patterns of two values.
+abbrev four : ℕ → List ℕ
+four n = n % 256 ∷ n / 256 % 256 ∷ n / 65536 % 256 ∷ n / 16777216 ∷ []
+
+abbrev pub sent : ℕ → ℕ → ℕ → ℕ → List ℕ
+sent channel minute first second = channel ∷ 0 ∷ 0 ∷ 0 ∷ four minute ++ four first ++ four second
+
+-- All but the barometer, at 100 and 280, newest first. Wheelhouse 12.5 °C; 2.5 m/s at 40° and course 260 at 12.5 kn, then 0 at 0° and
+-- course 30 at 10.0 kn; bulbs 20.0 and 15.0 °C, then both 0.0 °C.
+abbrev pub others : List (List ℕ)
+others =
+    sent 5 280 0 0
+    ∷ sent 4 280 0 0
+    ∷ sent 3 280 0x4120_0000 0x41f0_0000
+    ∷ sent 2 280 0 0
+    ∷ sent 1 280 0x4148_0000 0
+    ∷ sent 5 100 0x4170_0000 0
+    ∷ sent 4 100 0x41a0_0000 0
+    ∷ sent 3 100 0x4148_0000 0x4382_0000
+    ∷ sent 2 100 0x4020_0000 0x4220_0000
+    ∷ sent 1 100 0x4148_0000 0
+    ∷ []
+
+-- The barometer: 1000.0 hPa at 100; then at 280 1001.0, or the same after 1000.0 at 200, or 999.0.
+abbrev pub at-100 : List ℕ
+at-100 = sent 0 100 0x447a_0000 0
+
+abbrev pub at-200 : List ℕ
+at-200 = sent 0 200 0x447a_0000 0
+
+abbrev pub at-280 : List ℕ
+at-280 = sent 0 280 0x447a_4000 0
+
+abbrev pub lower-at-280 : List ℕ
+lower-at-280 = sent 0 280 0x4479_c000 0
+
+pub good : checked ship ≡ given tt
+unfolding checked answer every certificateHolds othersHold
+good = refl
+
+-- ---- hearing
+
+pub hears-at-100 : outcome (hearing (store-of ship others) at-100) ≡ given tt
+unfolding answer history received toWhole nearest ofBits
+hears-at-100 = ap outcome (message-by-messages ship good others at-100)
+
+-- ---- pressure
+
+abbrev tenths : ℤ → Hectopascals
+tenths p = record { 0 = record { v = p } }
+
+pub pressure-at-100 : TellsPressure (heard ship (at-280 ∷ at-100 ∷ others)) 100 (pressed.Given (tenths (pos 10000)))
+unfolding Answers answer history received toWhole nearest rounded ofBits remembered every scaleFrom scale outside temperature height seaLevel
+pressure-at-100 = (refl, refl)
+
+pub pressure-at-280 : TellsPressure (heard ship (at-280 ∷ at-100 ∷ others)) 280 (pressed.Given (tenths (pos 10010)))
+unfolding Answers answer history received toWhole nearest rounded ofBits remembered every scaleFrom scale outside temperature height seaLevel
+pressure-at-280 = (refl, refl)
+
+pub no-pressure-at-280 : TellsPressure (heard ship (at-100 ∷ others)) 280 (pressed.Refused (MissingReading 0 (record { 0 = 280 })))
+unfolding Answers answer history received toWhole nearest ofBits remembered
+no-pressure-at-280 = refl
+
+-- ---- tendency
+
+pub tendency-at-280 : TellsTendency (heard ship (at-280 ∷ at-100 ∷ others)) 280 (changed.Given (tenths (pos 10)) 179)
+unfolding Answers answer history received toWhole nearest rounded ofBits remembered absents every scaleFrom scale outside temperature height seaLevel
+tendency-at-280 = (refl, record { change = refl; absent = refl })
+
+pub busier-at-280 : TellsTendency (heard ship (at-280 ∷ at-200 ∷ at-100 ∷ others)) 280 (changed.Given (tenths (pos 10)) 178)
+unfolding Answers answer history received toWhole nearest rounded ofBits remembered absents every scaleFrom scale outside temperature height seaLevel
+busier-at-280 = (refl, record { change = refl; absent = refl })
+
+pub falling-at-280 : TellsTendency (heard ship (lower-at-280 ∷ at-100 ∷ others)) 280 (changed.Given (tenths (negℤ (pos 10))) 179)
+unfolding Answers answer history received toWhole nearest rounded ofBits remembered absents every scaleFrom scale outside temperature height seaLevel
+falling-at-280 = (refl, record { change = refl; absent = refl })
+
+-- ---- wind
+
+pub wind-at-100 : TellsWind (heard ship others) 100 (blew.Given (record { 0 = 48 }) (record { 0 = 60 }))
+unfolding Answers answer history received toWhole nearest ofBits remembered sines fold size sine cosine sum N M meets count between turned compass from withinLimits isNearest isWind
+wind-at-100 = (refl, tested 260 125 25 40 48 60 refl)
+
+pub wind-at-280 : TellsWind (heard ship others) 280 (blew.Given (record { 0 = 51 }) (record { 0 = 210 }))
+unfolding Answers answer history received toWhole nearest ofBits remembered sines fold size sine cosine sum N M meets count between turned compass from withinLimits isNearest isWind
+wind-at-280 = (refl, tested 30 100 0 0 51 210 refl)
+
+-- ---- humidity
+
+abbrev figures : ℕ → ℕ → ℕ → ℕ → ℕ → HumidityFigures
+figures e saturation deficit relative dew =
+    record {
+      e = record { 0 = e };
+      saturation = record { 0 = saturation };
+      deficit = record { 0 = deficit };
+      relative = relative;
+      dew = record { 0 = record { v = pos dew } };
+    }
+
+-- a table's entry of a wet bulb
+entry-is : (table : ℤ → ℕ) → IsTable table → (t : ℤ) (n : ℕ) → inside bulb t ≡ true → T (near-test water t n) → table t ≡ n
+entry-is table tabled t n i passed = near-one water t (table t) n (tabled t i) (near-by-test water t n passed)
+
+pub humidity-at-100 : TellsHumidity [] (heard ship (at-280 ∷ at-100 ∷ others)) 100 (moist.Given (figures 1366 2335 969 59 116))
+unfolding Answers answer history received toWhole nearest rounded ofBits remembered every scaleFrom scale outside stationPressure vapourPressure near-test dew-test
+humidity-at-100 table tabled = (
+  ap (λ (n : ℕ). cond (tooDry (vapourPressure n (pos 662) (pos 10000) (pos 200) (pos 150))) (refused (numbered 15 [])) (given tt)) (entry-is table tabled (pos 150) 1703 refl tt),
+  record {
+    entry = 1703;
+    near = near-by-test water (pos 150) 1703 tt;
+    saturation = near-by-test water (pos 200) 2335 tt;
+    e = refl;
+    follow = record { deficit = refl; relative = refl; dew = dew-by-test 1366 (pos 116) tt };
+  },
+)
+
+pub humidity-at-280 : TellsHumidity [] (heard ship (at-280 ∷ at-100 ∷ others)) 280 (moist.Given (figures 611 611 0 100 0))
+unfolding Answers answer history received toWhole nearest rounded ofBits remembered every scaleFrom scale outside stationPressure vapourPressure near-test dew-test
+humidity-at-280 table tabled = (
+  ap (λ (n : ℕ). cond (tooDry (vapourPressure n (pos 662) (pos 10010) (pos 0) (pos 0))) (refused (numbered 15 [])) (given tt)) (entry-is table tabled (pos 0) 611 refl tt),
+  record {
+    entry = 611;
+    near = near-by-test water (pos 0) 611 tt;
+    saturation = near-by-test water (pos 0) 611 tt;
+    e = refl;
+    follow = record { deficit = refl; relative = refl; dew = dew-by-test 611 (pos 0) tt };
+  },
+)
