@@ -10,7 +10,6 @@ use Rattle.number.specs.Round.{nearest, rounded}
 use Rattle.number.specs.Refusal.{numbered, refused, given, answer}
 use Rattle.quantity.specs.Limits.{inside, bulb}
 use Rattle.quantity.specs.declared.BarometerUnit.the-variants as unit
-use Rattle.quantity.specs.declared.Hectopascals.{Hectopascals}
 use Rattle.message.specs.Value.{toWhole}
 use Rattle.message.specs.Receive.{received}
 use Rattle.settings.specs.Settings.{checked, every, certificateHolds, othersHold}
@@ -29,15 +28,18 @@ use Rattle.vapour.specs.Vapour.{water, IsTable}
 use Rattle.vapour.proofs.SaturationLaws.{near-test, near-by-test, near-one}
 use Rattle.vapour.proofs.DewLaws.{dew-test, dew-by-test}
 use Rattle.humidity.specs.Humidity.{vapourPressure, tooDry}
-use Rattle.humidity.specs.declared.HumidityFigures.{HumidityFigures}
 use Rattle.station.specs.Source.{heard}
 use Rattle.station.specs.Questions.{Answers}
 use Rattle.station.specs.Told.{TellsPressure, TellsTendency, TellsWind, TellsHumidity}
 use Rattle.station.specs.declared.QuestionRefusal.the-variants.{MissingReading}
-use Rattle.station.specs.declared.PressureAnswer.the-variants as pressed
-use Rattle.station.specs.declared.TendencyAnswer.the-variants as changed
-use Rattle.station.specs.declared.WindAnswer.the-variants as blew
-use Rattle.station.specs.declared.HumidityAnswer.the-variants as moist
+use Rattle.station.specs.declared.PressureAnswer.{PressureAnswer}
+use Rattle.station.specs.declared.PressureAnswer.the-variants as pressure
+use Rattle.station.specs.declared.TendencyAnswer.{TendencyAnswer}
+use Rattle.station.specs.declared.TendencyAnswer.the-variants as tendency
+use Rattle.station.specs.declared.WindAnswer.{WindAnswer}
+use Rattle.station.specs.declared.WindAnswer.the-variants as wind
+use Rattle.station.specs.declared.HumidityAnswer.{HumidityAnswer}
+use Rattle.station.specs.declared.HumidityAnswer.the-variants as humidity
 use Rattle.station.proofs.RefusalsInOrder.{message-by-messages}
 
 -- ---- settings and messages
@@ -106,62 +108,72 @@ hears-at-100 = ap outcome (message-by-messages ship good others at-100)
 
 -- ---- pressure
 
-abbrev tenths : ℤ → Hectopascals
-tenths p = record { 0 = record { v = p } }
+abbrev pub pressed : ℤ → PressureAnswer
+pressed p = pressure.Given (record { 0 = record { v = p } })
 
-pub pressure-at-100 : TellsPressure (heard ship (at-280 ∷ at-100 ∷ others)) 100 (pressed.Given (tenths (pos 10000)))
+pub pressure-at-100 : TellsPressure (heard ship (at-280 ∷ at-100 ∷ others)) 100 (pressed (pos 10000))
 unfolding Answers answer history received toWhole nearest rounded ofBits remembered every scaleFrom scale outside temperature height seaLevel
 pressure-at-100 = (refl, refl)
 
-pub pressure-at-280 : TellsPressure (heard ship (at-280 ∷ at-100 ∷ others)) 280 (pressed.Given (tenths (pos 10010)))
+pub pressure-at-280 : TellsPressure (heard ship (at-280 ∷ at-100 ∷ others)) 280 (pressed (pos 10010))
 unfolding Answers answer history received toWhole nearest rounded ofBits remembered every scaleFrom scale outside temperature height seaLevel
 pressure-at-280 = (refl, refl)
 
-pub no-pressure-at-280 : TellsPressure (heard ship (at-100 ∷ others)) 280 (pressed.Refused (MissingReading 0 (record { 0 = 280 })))
+abbrev pub missing : ℕ → ℕ → PressureAnswer
+missing channel minute = pressure.Refused (MissingReading channel (record { 0 = minute }))
+
+pub no-pressure-at-280 : TellsPressure (heard ship (at-100 ∷ others)) 280 (missing 0 280)
 unfolding Answers answer history received toWhole nearest ofBits remembered
 no-pressure-at-280 = refl
 
 -- ---- tendency
 
-pub tendency-at-280 : TellsTendency (heard ship (at-280 ∷ at-100 ∷ others)) 280 (changed.Given (tenths (pos 10)) 179)
+abbrev pub changed : ℤ → ℕ → TendencyAnswer
+changed c n = tendency.Given (record { 0 = record { v = c } }) n
+
+pub tendency-at-280 : TellsTendency (heard ship (at-280 ∷ at-100 ∷ others)) 280 (changed (pos 10) 179)
 unfolding Answers answer history received toWhole nearest rounded ofBits remembered absents every scaleFrom scale outside temperature height seaLevel
 tendency-at-280 = (refl, record { change = refl; absent = refl })
 
-pub busier-at-280 : TellsTendency (heard ship (at-280 ∷ at-200 ∷ at-100 ∷ others)) 280 (changed.Given (tenths (pos 10)) 178)
+pub busier-at-280 : TellsTendency (heard ship (at-280 ∷ at-200 ∷ at-100 ∷ others)) 280 (changed (pos 10) 178)
 unfolding Answers answer history received toWhole nearest rounded ofBits remembered absents every scaleFrom scale outside temperature height seaLevel
 busier-at-280 = (refl, record { change = refl; absent = refl })
 
-pub falling-at-280 : TellsTendency (heard ship (lower-at-280 ∷ at-100 ∷ others)) 280 (changed.Given (tenths (negℤ (pos 10))) 179)
+pub falling-at-280 : TellsTendency (heard ship (lower-at-280 ∷ at-100 ∷ others)) 280 (changed (negℤ (pos 10)) 179)
 unfolding Answers answer history received toWhole nearest rounded ofBits remembered absents every scaleFrom scale outside temperature height seaLevel
 falling-at-280 = (refl, record { change = refl; absent = refl })
 
 -- ---- wind
 
-pub wind-at-100 : TellsWind (heard ship others) 100 (blew.Given (record { 0 = 48 }) (record { 0 = 60 }))
+abbrev pub blown : ℕ → ℕ → WindAnswer
+blown v d = wind.Given (record { 0 = v }) (record { 0 = d })
+
+pub wind-at-100 : TellsWind (heard ship others) 100 (blown 48 60)
 unfolding Answers answer history received toWhole nearest ofBits remembered sines fold size sine cosine sum N M meets count between turned compass from withinLimits isNearest isWind
 wind-at-100 = (refl, tested 260 125 25 40 48 60 refl)
 
-pub wind-at-280 : TellsWind (heard ship others) 280 (blew.Given (record { 0 = 51 }) (record { 0 = 210 }))
+pub wind-at-280 : TellsWind (heard ship others) 280 (blown 51 210)
 unfolding Answers answer history received toWhole nearest ofBits remembered sines fold size sine cosine sum N M meets count between turned compass from withinLimits isNearest isWind
 wind-at-280 = (refl, tested 30 100 0 0 51 210 refl)
 
 -- ---- humidity
 
-abbrev figures : ℕ → ℕ → ℕ → ℕ → ℕ → HumidityFigures
-figures e saturation deficit relative dew =
-    record {
+abbrev pub moist : ℕ → ℕ → ℕ → ℕ → ℕ → HumidityAnswer
+moist e saturation deficit relative dew =
+    humidity.Given
+    (record {
       e = record { 0 = e };
       saturation = record { 0 = saturation };
       deficit = record { 0 = deficit };
       relative = relative;
       dew = record { 0 = record { v = pos dew } };
-    }
+    })
 
 -- a table's entry of a wet bulb
 entry-is : (table : ℤ → ℕ) → IsTable table → (t : ℤ) (n : ℕ) → inside bulb t ≡ true → T (near-test water t n) → table t ≡ n
 entry-is table tabled t n i passed = near-one water t (table t) n (tabled t i) (near-by-test water t n passed)
 
-pub humidity-at-100 : TellsHumidity [] (heard ship (at-280 ∷ at-100 ∷ others)) 100 (moist.Given (figures 1366 2335 969 59 116))
+pub humidity-at-100 : TellsHumidity [] (heard ship (at-280 ∷ at-100 ∷ others)) 100 (moist 1366 2335 969 59 116)
 unfolding Answers answer history received toWhole nearest rounded ofBits remembered every scaleFrom scale outside stationPressure vapourPressure near-test dew-test
 humidity-at-100 table tabled = (
   ap (λ (n : ℕ). cond (tooDry (vapourPressure n (pos 662) (pos 10000) (pos 200) (pos 150))) (refused (numbered 15 [])) (given tt)) (entry-is table tabled (pos 150) 1703 refl tt),
@@ -174,7 +186,7 @@ humidity-at-100 table tabled = (
   },
 )
 
-pub humidity-at-280 : TellsHumidity [] (heard ship (at-280 ∷ at-100 ∷ others)) 280 (moist.Given (figures 611 611 0 100 0))
+pub humidity-at-280 : TellsHumidity [] (heard ship (at-280 ∷ at-100 ∷ others)) 280 (moist 611 611 0 100 0)
 unfolding Answers answer history received toWhole nearest rounded ofBits remembered every scaleFrom scale outside stationPressure vapourPressure near-test dew-test
 humidity-at-280 table tabled = (
   ap (λ (n : ℕ). cond (tooDry (vapourPressure n (pos 662) (pos 10010) (pos 0) (pos 0))) (refused (numbered 15 [])) (given tt)) (entry-is table tabled (pos 0) 611 refl tt),
