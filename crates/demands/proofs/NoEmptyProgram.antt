@@ -5,18 +5,16 @@ use mathlib.Core.Path.{_≡_, refl, sym, ap, subst, _∙_}
 use mathlib.Core.List.{List, [], _∷_}
 use Prim.Native.Nat.{ℕ}
 use native.Mathlib.Omega.{arith}
-use lib.IntN.{ℤ, pos, negℤ, natAbs}
+use lib.IntN.{pos, negℤ, natAbs}
 use denote.Ref.{RefT}
-use Rattle.number.specs.Refusal.{Numbered, numbered, Answer, refused, given}
-use Rattle.quantity.specs.declared.MetresPerSecond.{MetresPerSecond}
+use Rattle.number.specs.Refusal.{Answer, given}
 use Rattle.settings.specs.Settings.{checked}
 use Rattle.settings.specs.declared.Settings.{Settings}
 use Rattle.store.specs.Block.{hearing, heardBy, outcome}
 use Rattle.store.specs.History.{store-of}
-use Rattle.store.specs.declared.Hearing.the-variants.{Heard}
 use Rattle.store.proofs.OpenLaws.{opens}
-use Rattle.store.proofs.SingleAnswers.{hearing-of, hearing-back}
-use Rattle.wind.specs.declared.TrueWind.the-variants.{Blows}
+use Rattle.wind.specs.declared.TrueWind.{TrueWind}
+use Rattle.wind.specs.declared.TrueWind.the-variants.{Blows, OutsideLimits}
 use Rattle.humidity.specs.declared.HumidityFigures.{HumidityFigures}
 use Rattle.station.specs.Source.{heard, held}
 use Rattle.station.specs.Questions.{foreign}
@@ -27,9 +25,28 @@ use Rattle.station.specs.declared.WindAnswer.{WindAnswer}
 use Rattle.station.specs.declared.HumidityAnswer.{HumidityAnswer}
 use Rattle.station.proofs.StoreLaws.{pressure-by-messages, tendency-by-messages, wind-by-messages, humidity-by-messages}
 use Rattle.station.proofs.SingleAnswers.{one-pressure, one-tendency, one-wind, one-humidity-answer}
-use Rattle.demands.specs.EmptyPrograms.{Program, Meets, Use, blockOf, pressureIn, tendencyIn, changeOf, changeIn, windIn, humidityIn, Refuses, Constant, InventsTheCount, NoEmptyProgram}
+use Rattle.demands.specs.EmptyPrograms.{Program, Meets, Use, blockOf, openingIn, hearingIn, pressureIn, tendencyIn, changeOf, changeIn, windIn, humidityIn, Refuses, Constant, StoresNothing, StoresOnlyTheFirst, InventsTheCount}
 use Rattle.demands.proofs.WatchAnswers as watch
-use Rattle.demands.proofs.WatchAnswers.{ship, good, others, at-100, at-200, at-280, lower-at-280, pressed, missing, changed, blown, moist}
+use Rattle.demands.proofs.WatchAnswers.{ship, good, others, at-100, at-280, quiet, busier, falling, pressed, missing, changed, blown, moist}
+
+pub record NoEmptyProgram (p : Program) : Type 0 where
+  -- "one that refuses everything"
+  pub opening-not-refused : Refuses (openingIn p) → ⊥
+  pub hearing-not-refused : ((m : List ℕ) → Refuses (hearingIn p m)) → ⊥
+  pub pressure-not-refused : Refuses (pressureIn p) → ⊥
+  pub tendency-not-refused : Refuses (tendencyIn p) → ⊥
+  pub wind-not-refused : Refuses (windIn p) → ⊥
+  pub humidity-not-refused : Refuses (humidityIn p) → ⊥
+  -- "one with a constant answer"
+  pub pressure-not-constant : Constant (pressureIn p) → ⊥
+  pub change-not-constant : Constant (changeIn p) → ⊥
+  pub wind-not-constant : Constant (windIn p) → ⊥
+  pub humidity-not-constant : Constant (humidityIn p) → ⊥
+  -- "one that stores nothing", "one that stores only the first message and merely says yes to the rest"
+  pub stores-something : StoresNothing p → ⊥
+  pub stores-more-than-the-first : StoresOnlyTheFirst p → ⊥
+  -- "one that invents the absent count"
+  pub counts-the-absent : InventsTheCount p → ⊥
 
 -- words lent, wherever they lie
 abbrev lent : List ℕ → RefT (List ℕ)
@@ -39,12 +56,19 @@ lent s = record { ptr = (0, 0); name = 0; now = s }
 abbrev asked : List (List ℕ) → ℕ → Use
 asked M m = record { memory = []; settings = ship; messages = M; minute = m }
 
-module _ {A : Type 0} (ask : Use → Answer Numbered A) (u : Use) (x : A) (e : ask u ≡ given x) where
-  given-once : Refuses ask → ⊥
-  given-once r = let f = r u .1 in let z : _≡_ {A = ℕ} 0 1 = cc in omega arith
+given-once : {R A : Type 0} (ask : Use → Answer R A) (u : Use) (x : A) → ask u ≡ given x → Refuses ask → ⊥
+given-once ask u x e r = let f = r u .1 in let z : _≡_ {A = ℕ} 0 1 = cc in omega arith
 
-  given-twice : (v : Use) (y : A) → ask v ≡ given y → (x ≡ y → ⊥) → Constant ask → ⊥
-  given-twice v y f differ c = differ (c u v x y e f)
+-- figures to tell two answers apart by
+apart : pos 10 ≡ negℤ (pos 10) → ⊥
+apart e = let z : _≡_ {A = ℕ} 0 1 = cc in omega arith
+
+abbrev speed : TrueWind → ℕ
+speed (Blows v d) = v .0
+speed OutsideLimits = 0
+
+abbrev relative : HumidityFigures → ℕ
+relative h = h .relative
 
 module _ (p : Program) (meets : Meets p) where
   block-is : (s : List ℕ) (g : Settings) → checked g ≡ given tt → (M : List (List ℕ)) → blockOf p s g M ≡ store-of g M
@@ -90,39 +114,38 @@ module _ (p : Program) (meets : Meets p) where
         let told = subst (λ (x : List ℕ). TellsHumidity (foreign (held x) m) (held x) m q) is (meets .humidity ([], tt) (lent b, (m, tt))) in
         ap humidityAs (one-humidity-answer [] (heard ship M) m q r (humidity-by-messages ship good M m q told) w)
 
-  hears-first : p .hears (blockOf p [] ship others) at-100 .0 ≡ Heard
-  hears-first =
-      let h = p .hears (blockOf p [] ship others) at-100 .0 in
-      let told = meets .hears ([], ([], tt)) (lent (blockOf p [] ship others), (lent at-100, tt)) .answer in
-      sym (hearing-back h)
-      ∙ ap hearing-of (told ∙ ap (λ (x : List ℕ). outcome (hearing x at-100)) (block-is [] ship good others) ∙ watch.hears-at-100)
-      ∙ hearing-back Heard
+    hearing-is : (n : List ℕ) → hearingIn p n (asked M m) ≡ outcome (hearing (store-of ship M) n)
+    unfolding b
+    hearing-is n = meets .hears ([], ([], tt)) (lent b, (lent n, tt)) .answer ∙ ap (λ (x : List ℕ). outcome (hearing x n)) is
 
-  abbrev quiet : List (List ℕ)
-  quiet = at-280 ∷ at-100 ∷ others
+  opening-given : openingIn p (asked [] 0) ≡ given tt
+  opening-given = meets .opens ([], tt) (lent [], (ship, tt)) .0 ∙ good
 
-  pressure-100 : pressureIn p (asked quiet 100) ≡ given (pos 10000)
+  hearing-given : hearingIn p at-100 (asked others 280) ≡ given tt
+  hearing-given = hearing-is others 280 at-100 ∙ watch.hears-at-100
+
+  pressure-100 : pressureIn p (asked quiet 100) ≡ pressureAs (pressed (pos 10000))
   pressure-100 = pressure-is quiet 100 (pressed (pos 10000)) watch.pressure-at-100
 
-  pressure-280 : pressureIn p (asked quiet 280) ≡ given (pos 10010)
+  pressure-280 : pressureIn p (asked quiet 280) ≡ pressureAs (pressed (pos 10010))
   pressure-280 = pressure-is quiet 280 (pressed (pos 10010)) watch.pressure-at-280
 
-  pressure-missing : pressureIn p (asked (at-100 ∷ others) 280) ≡ refused (numbered 11 (0 ∷ 280 ∷ []))
-  pressure-missing = pressure-is (at-100 ∷ others) 280 (missing 0 280) watch.no-pressure-at-280
+  no-pressure-280 : pressureIn p (asked (at-100 ∷ others) 280) ≡ pressureAs (missing 0 280)
+  no-pressure-280 = pressure-is (at-100 ∷ others) 280 (missing 0 280) watch.no-pressure-at-280
 
-  rise : tendencyIn p (asked quiet 280) ≡ given (record { change = pos 10; absent = 179 })
-  rise = tendency-is quiet 280 (changed (pos 10) 179) watch.tendency-at-280
+  rise : tendencyIn p (asked quiet 280) ≡ tendencyAs (changed (pos 10) 179)
+  rise = tendency-is quiet 280 (changed (pos 10) 179) watch.quiet-at-280
 
-  busier-rise : tendencyIn p (asked (at-280 ∷ at-200 ∷ at-100 ∷ others) 280) ≡ given (record { change = pos 10; absent = 178 })
-  busier-rise = tendency-is (at-280 ∷ at-200 ∷ at-100 ∷ others) 280 (changed (pos 10) 178) watch.busier-at-280
+  busier-rise : tendencyIn p (asked busier 280) ≡ tendencyAs (changed (pos 10) 178)
+  busier-rise = tendency-is busier 280 (changed (pos 10) 178) watch.busier-at-280
 
-  fall : tendencyIn p (asked (lower-at-280 ∷ at-100 ∷ others) 280) ≡ given (record { change = negℤ (pos 10); absent = 179 })
-  fall = tendency-is (lower-at-280 ∷ at-100 ∷ others) 280 (changed (negℤ (pos 10)) 179) watch.falling-at-280
+  fall : tendencyIn p (asked falling 280) ≡ tendencyAs (changed (negℤ (pos 10)) 179)
+  fall = tendency-is falling 280 (changed (negℤ (pos 10)) 179) watch.falling-at-280
 
-  wind-100 : windIn p (asked others 100) ≡ given (Blows (record { 0 = 48 }) (record { 0 = 60 }))
+  wind-100 : windIn p (asked others 100) ≡ windAs (blown 48 60)
   wind-100 = wind-is others 100 (blown 48 60) watch.wind-at-100
 
-  wind-280 : windIn p (asked others 280) ≡ given (Blows (record { 0 = 51 }) (record { 0 = 210 }))
+  wind-280 : windIn p (asked others 280) ≡ windAs (blown 51 210)
   wind-280 = wind-is others 280 (blown 51 210) watch.wind-at-280
 
   humidity-100 : humidityIn p (asked quiet 100) ≡ humidityAs (moist 1366 2335 969 59 116)
@@ -133,24 +156,31 @@ module _ (p : Program) (meets : Meets p) where
 
   -- ---- the five
 
+  -- the last message made a pressure of a refusal
   one-more : pressureIn p (asked quiet 280) ≡ pressureIn p (asked (at-100 ∷ others) 280) → ⊥
-  one-more e = let z : given (pos 10010) ≡ refused (numbered 11 (0 ∷ 280 ∷ [])) = sym pressure-280 ∙ e ∙ pressure-missing in let y : _≡_ {A = ℕ} 0 1 = cc in omega arith
+  one-more e =
+      let z : pressureAs (pressed (pos 10010)) ≡ pressureAs (missing 0 280) = sym pressure-280 ∙ e ∙ no-pressure-280 in
+      let y : _≡_ {A = ℕ} 0 1 = cc in
+      omega arith
 
-  not-invented : InventsTheCount p → ⊥
-  not-invented i = let e : _≡_ {A = ℕ} 179 178 = i .1 (asked quiet 280) _ rise ∙ sym (i .1 (asked (at-280 ∷ at-200 ∷ at-100 ∷ others) 280) _ busier-rise) in omega arith
+  -- all is the same but what was heard between
+  one-fewer : InventsTheCount p → ⊥
+  one-fewer i = let z : _≡_ {A = ℕ} 179 178 = i .1 (asked quiet 280) _ rise ∙ sym (i .1 (asked busier 280) _ busier-rise) in omega arith
 
   pub no-empty-program : NoEmptyProgram p
   no-empty-program =
       record {
-        pressure-not-refused = given-once (pressureIn p) (asked quiet 100) (pos 10000) pressure-100;
+        opening-not-refused = given-once (openingIn p) (asked [] 0) tt opening-given;
+        hearing-not-refused = λ r. given-once (hearingIn p at-100) (asked others 280) tt hearing-given (r at-100);
+        pressure-not-refused = given-once (pressureIn p) (asked quiet 100) _ pressure-100;
         tendency-not-refused = given-once (tendencyIn p) (asked quiet 280) _ rise;
         wind-not-refused = given-once (windIn p) (asked others 100) _ wind-100;
         humidity-not-refused = given-once (humidityIn p) (asked quiet 100) _ humidity-100;
-        pressure-not-constant = given-twice (pressureIn p) (asked quiet 100) (pos 10000) pressure-100 (asked quiet 280) (pos 10010) pressure-280 (λ e. omega (arith, ap natAbs e));
-        change-not-constant = given-twice (changeIn p) (asked quiet 280) (pos 10) (ap changeOf rise) (asked (lower-at-280 ∷ at-100 ∷ others) 280) (negℤ (pos 10)) (ap changeOf fall) (λ e. let z : _≡_ {A = ℕ} 0 1 = cc in omega arith);
-        wind-not-constant = given-twice (windIn p) (asked others 100) _ wind-100 (asked others 280) _ wind-280 (λ e. let z : _≡_ {A = MetresPerSecond} (record { 0 = 48 }) (record { 0 = 51 }) = cc in omega (arith, ap (λ (v : MetresPerSecond). v .0) z));
-        humidity-not-constant = given-twice (humidityIn p) (asked quiet 100) _ humidity-100 (asked quiet 280) _ humidity-280 (λ e. omega (arith, ap (λ (h : HumidityFigures). h .relative) e));
+        pressure-not-constant = λ c. omega (arith, ap natAbs (c (asked quiet 100) (asked quiet 280) _ _ pressure-100 pressure-280));
+        change-not-constant = λ c. apart (c (asked quiet 280) (asked falling 280) _ _ (ap changeOf rise) (ap changeOf fall));
+        wind-not-constant = λ c. omega (arith, ap speed (c (asked others 100) (asked others 280) _ _ wind-100 wind-280));
+        humidity-not-constant = λ c. omega (arith, ap relative (c (asked quiet 100) (asked quiet 280) _ _ humidity-100 humidity-280));
         stores-something = λ s. one-more (s (asked (at-100 ∷ others) 280) at-280);
-        stores-more-than-the-first = λ s. one-more (s (asked others 280) at-100 at-280 refl hears-first);
-        counts-the-absent = not-invented;
+        stores-more-than-the-first = λ s. one-more (s (asked others 280) at-100 at-280 refl hearing-given);
+        counts-the-absent = one-fewer;
       }

@@ -64,7 +64,7 @@ ship =
 abbrev four : ℕ → List ℕ
 four n = n % 256 ∷ n / 256 % 256 ∷ n / 65536 % 256 ∷ n / 16777216 ∷ []
 
-abbrev pub sent : ℕ → ℕ → ℕ → ℕ → List ℕ
+abbrev sent : ℕ → ℕ → ℕ → ℕ → List ℕ
 sent channel minute first second = channel ∷ 0 ∷ 0 ∷ 0 ∷ four minute ++ four first ++ four second
 
 -- All but the barometer, at 100 and 280, newest first. Wheelhouse 12.5 °C; 2.5 m/s at 40° and course 260 at 12.5 kn, then 0 at 0° and
@@ -83,18 +83,21 @@ others =
     ∷ sent 1 100 0x4148_0000 0
     ∷ []
 
--- The barometer: 1000.0 hPa at 100; then at 280 1001.0, or the same after 1000.0 at 200, or 999.0.
+-- Then the barometer: 1000.0 hPa at 100; at 280 1001.0, with nothing or another reading between, or 999.0.
 abbrev pub at-100 : List ℕ
 at-100 = sent 0 100 0x447a_0000 0
-
-abbrev pub at-200 : List ℕ
-at-200 = sent 0 200 0x447a_0000 0
 
 abbrev pub at-280 : List ℕ
 at-280 = sent 0 280 0x447a_4000 0
 
-abbrev pub lower-at-280 : List ℕ
-lower-at-280 = sent 0 280 0x4479_c000 0
+abbrev pub quiet : List (List ℕ)
+quiet = at-280 ∷ at-100 ∷ others
+
+abbrev pub busier : List (List ℕ)
+busier = at-280 ∷ sent 0 200 0x447a_0000 0 ∷ at-100 ∷ others
+
+abbrev pub falling : List (List ℕ)
+falling = sent 0 280 0x4479_c000 0 ∷ at-100 ∷ others
 
 pub good : checked ship ≡ given tt
 unfolding checked answer every certificateHolds othersHold
@@ -111,11 +114,11 @@ hears-at-100 = ap outcome (message-by-messages ship good others at-100)
 abbrev pub pressed : ℤ → PressureAnswer
 pressed p = pressure.Given (record { 0 = record { v = p } })
 
-pub pressure-at-100 : TellsPressure (heard ship (at-280 ∷ at-100 ∷ others)) 100 (pressed (pos 10000))
+pub pressure-at-100 : TellsPressure (heard ship quiet) 100 (pressed (pos 10000))
 unfolding Answers answer history received toWhole nearest rounded ofBits remembered every scaleFrom scale outside temperature height seaLevel
 pressure-at-100 = (refl, refl)
 
-pub pressure-at-280 : TellsPressure (heard ship (at-280 ∷ at-100 ∷ others)) 280 (pressed (pos 10010))
+pub pressure-at-280 : TellsPressure (heard ship quiet) 280 (pressed (pos 10010))
 unfolding Answers answer history received toWhole nearest rounded ofBits remembered every scaleFrom scale outside temperature height seaLevel
 pressure-at-280 = (refl, refl)
 
@@ -131,15 +134,15 @@ no-pressure-at-280 = refl
 abbrev pub changed : ℤ → ℕ → TendencyAnswer
 changed c n = tendency.Given (record { 0 = record { v = c } }) n
 
-pub tendency-at-280 : TellsTendency (heard ship (at-280 ∷ at-100 ∷ others)) 280 (changed (pos 10) 179)
+pub quiet-at-280 : TellsTendency (heard ship quiet) 280 (changed (pos 10) 179)
 unfolding Answers answer history received toWhole nearest rounded ofBits remembered absents every scaleFrom scale outside temperature height seaLevel
-tendency-at-280 = (refl, record { change = refl; absent = refl })
+quiet-at-280 = (refl, record { change = refl; absent = refl })
 
-pub busier-at-280 : TellsTendency (heard ship (at-280 ∷ at-200 ∷ at-100 ∷ others)) 280 (changed (pos 10) 178)
+pub busier-at-280 : TellsTendency (heard ship busier) 280 (changed (pos 10) 178)
 unfolding Answers answer history received toWhole nearest rounded ofBits remembered absents every scaleFrom scale outside temperature height seaLevel
 busier-at-280 = (refl, record { change = refl; absent = refl })
 
-pub falling-at-280 : TellsTendency (heard ship (lower-at-280 ∷ at-100 ∷ others)) 280 (changed (negℤ (pos 10)) 179)
+pub falling-at-280 : TellsTendency (heard ship falling) 280 (changed (negℤ (pos 10)) 179)
 unfolding Answers answer history received toWhole nearest rounded ofBits remembered absents every scaleFrom scale outside temperature height seaLevel
 falling-at-280 = (refl, record { change = refl; absent = refl })
 
@@ -173,7 +176,7 @@ moist e saturation deficit relative dew =
 entry-is : (table : ℤ → ℕ) → IsTable table → (t : ℤ) (n : ℕ) → inside bulb t ≡ true → T (near-test water t n) → table t ≡ n
 entry-is table tabled t n i passed = near-one water t (table t) n (tabled t i) (near-by-test water t n passed)
 
-pub humidity-at-100 : TellsHumidity [] (heard ship (at-280 ∷ at-100 ∷ others)) 100 (moist 1366 2335 969 59 116)
+pub humidity-at-100 : TellsHumidity [] (heard ship quiet) 100 (moist 1366 2335 969 59 116)
 unfolding Answers answer history received toWhole nearest rounded ofBits remembered every scaleFrom scale outside stationPressure vapourPressure near-test dew-test
 humidity-at-100 table tabled = (
   ap (λ (n : ℕ). cond (tooDry (vapourPressure n (pos 662) (pos 10000) (pos 200) (pos 150))) (refused (numbered 15 [])) (given tt)) (entry-is table tabled (pos 150) 1703 refl tt),
@@ -186,7 +189,7 @@ humidity-at-100 table tabled = (
   },
 )
 
-pub humidity-at-280 : TellsHumidity [] (heard ship (at-280 ∷ at-100 ∷ others)) 280 (moist 611 611 0 100 0)
+pub humidity-at-280 : TellsHumidity [] (heard ship quiet) 280 (moist 611 611 0 100 0)
 unfolding Answers answer history received toWhole nearest rounded ofBits remembered every scaleFrom scale outside stationPressure vapourPressure near-test dew-test
 humidity-at-280 table tabled = (
   ap (λ (n : ℕ). cond (tooDry (vapourPressure n (pos 662) (pos 10010) (pos 0) (pos 0))) (refused (numbered 15 [])) (given tt)) (entry-is table tabled (pos 0) 611 refl tt),

@@ -7,10 +7,11 @@ use lib.IntN.{ℤ}
 use denote.Ref.{now, at-last}
 use Rattle.number.specs.Refusal.{Numbered, Answer, refused, given}
 use Rattle.message.specs.Bytes.{channel}
+use Rattle.settings.specs.Settings.{checkedAs}
 use Rattle.settings.specs.declared.Settings.{Settings}
 use Rattle.settings.specs.declared.Checked.{Checked}
+use Rattle.store.specs.Block.{heardAs}
 use Rattle.store.specs.declared.Hearing.{Hearing}
-use Rattle.store.specs.declared.Hearing.the-variants.{Heard}
 use Rattle.wind.specs.declared.TrueWind.{TrueWind}
 use Rattle.humidity.specs.declared.HumidityFigures.{HumidityFigures}
 use Rattle.station.specs.Questions.{Change}
@@ -70,6 +71,12 @@ abbrev pub block : Program → Use → List ℕ
 block p u = blockOf p (u .memory) (u .settings) (u .messages)
 
 -- What it answers, as document 01 tells it.
+abbrev pub openingIn : Program → Use → Answer ℕ (Unit {0})
+openingIn p u = checkedAs (p .opens (u .memory) (u .settings) .0)
+
+abbrev pub hearingIn : Program → List ℕ → Use → Answer ℕ (Unit {0})
+hearingIn p m u = heardAs (p .hears (block p u) m .0)
+
 abbrev pub pressureIn : Program → Use → Answer Numbered ℤ
 pressureIn p u = pressureAs (p .pressure (block p u) (u .minute))
 
@@ -92,9 +99,9 @@ humidityIn p u = humidityAs (p .humidity (block p u) (u .minute))
 
 -- ---- the five
 
--- "one that refuses everything": a question is always refused.
-abbrev pub Refuses : {A : Type 0} → (Use → Answer Numbered A) → Type 0
-Refuses ask = (u : Use) → (n : Numbered) × (ask u ≡ refused n)
+-- "one that refuses everything"
+abbrev pub Refuses : {R A : Type 0} → (Use → Answer R A) → Type 0
+Refuses {R} ask = (u : Use) → (n : R) × (ask u ≡ refused n)
 
 -- "one with a constant answer": wherever it gives figures, they are the same.
 abbrev pub Constant : {A : Type 0} → (Use → Answer Numbered A) → Type 0
@@ -112,23 +119,8 @@ StoresNothing p = (u : Use) (m : List ℕ) → pressureIn p (after u m) ≡ pres
 -- (so none at all, where it stores only the first of all) changes an answer.
 abbrev pub StoresOnlyTheFirst : Program → Type 0
 StoresOnlyTheFirst p =
-    (u : Use) (m n : List ℕ) → channel m ≡ channel n → p .hears (block p u) m .0 ≡ Heard → pressureIn p (after (after u m) n) ≡ pressureIn p (after u m)
+    (u : Use) (m n : List ℕ) → channel m ≡ channel n → hearingIn p m u ≡ given tt → pressureIn p (after (after u m) n) ≡ pressureIn p (after u m)
 
 -- "one that invents the absent count": it is made from settings, minute and change, whatever was heard.
 abbrev pub InventsTheCount : Program → Type 0
 InventsTheCount p = (made : Settings → ℕ → ℤ → ℕ) × ((u : Use) (t : Change) → tendencyIn p u ≡ given t → t .absent ≡ made (u .settings) (u .minute) (t .change))
-
--- ---- none of them
-
-pub record NoEmptyProgram (p : Program) : Type 0 where
-  pub pressure-not-refused : Refuses (pressureIn p) → ⊥
-  pub tendency-not-refused : Refuses (tendencyIn p) → ⊥
-  pub wind-not-refused : Refuses (windIn p) → ⊥
-  pub humidity-not-refused : Refuses (humidityIn p) → ⊥
-  pub pressure-not-constant : Constant (pressureIn p) → ⊥
-  pub change-not-constant : Constant (changeIn p) → ⊥
-  pub wind-not-constant : Constant (windIn p) → ⊥
-  pub humidity-not-constant : Constant (humidityIn p) → ⊥
-  pub stores-something : StoresNothing p → ⊥
-  pub stores-more-than-the-first : StoresOnlyTheFirst p → ⊥
-  pub counts-the-absent : InventsTheCount p → ⊥
