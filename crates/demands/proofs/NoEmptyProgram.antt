@@ -2,16 +2,19 @@
 -- on one watch its answers are known: each question gives figures, at one minute others than at another; a message changes them after
 -- another was heard; and one reading more between leaves one minute fewer absent, with all the rest the same. Assumes nothing.
 use mathlib.Core.Path.{_≡_, refl, sym, ap, subst, _∙_}
+use mathlib.Core.Bool.{true}
 use mathlib.Core.List.{List, [], _∷_}
 use Prim.Native.Nat.{ℕ}
 use native.Mathlib.Omega.{arith}
 use lib.IntN.{pos, negℤ, natAbs}
+use lib.ListN.{replicate}
 use denote.Ref.{RefT}
 use Rattle.number.specs.Refusal.{Answer, given}
 use Rattle.settings.specs.Settings.{checked}
 use Rattle.settings.specs.declared.Settings.{Settings}
-use Rattle.store.specs.Block.{hearing, heardBy, outcome}
-use Rattle.store.specs.History.{store-of}
+use Rattle.store.specs.Layout.{WORDS}
+use Rattle.store.specs.Block.{hearing, heardBy, outcome, recallOf}
+use Rattle.store.specs.History.{isPresent, store-of}
 use Rattle.store.proofs.OpenLaws.{opens}
 use Rattle.wind.specs.declared.TrueWind.{TrueWind}
 use Rattle.wind.specs.declared.TrueWind.the-variants.{Blows, OutsideLimits}
@@ -52,9 +55,12 @@ pub record NoEmptyProgram (p : Program) : Type 0 where
 abbrev lent : List ℕ → RefT (List ℕ)
 lent s = record { ptr = (0, 0); name = 0; now = s }
 
--- the ship's store after these messages, asked for this minute
+-- the ship's store, opened where all words were 0, after these messages, asked for this minute
+memory : List ℕ
+memory = replicate WORDS 0
+
 abbrev asked : List (List ℕ) → ℕ → Use
-asked M m = record { memory = []; settings = ship; messages = M; minute = m }
+asked M m = record { memory = memory; settings = ship; messages = M; minute = m }
 
 given-once : {R A : Type 0} (ask : Use → Answer R A) (u : Use) (x : A) → ask u ≡ given x → Refuses ask → ⊥
 given-once ask u x e r = let f = r u .1 in let z : _≡_ {A = ℕ} 0 1 = cc in omega arith
@@ -78,11 +84,11 @@ module _ (p : Program) (meets : Meets p) where
 
   module _ (M : List (List ℕ)) (m : ℕ) where
     b : List ℕ
-    b = blockOf p [] ship M
+    b = blockOf p memory ship M
 
     is : b ≡ store-of ship M
     unfolding b
-    is = block-is [] ship good M
+    is = block-is memory ship good M
 
     -- ---- what it answers on a watch
 
@@ -119,7 +125,7 @@ module _ (p : Program) (meets : Meets p) where
     hearing-is n = meets .hears ([], ([], tt)) (lent b, (lent n, tt)) .answer ∙ ap (λ (x : List ℕ). outcome (hearing x n)) is
 
   opening-given : openingIn p (asked [] 0) ≡ given tt
-  opening-given = meets .opens ([], tt) (lent [], (ship, tt)) .0 ∙ good
+  opening-given = meets .opens ([], tt) (lent memory, (ship, tt)) .0 ∙ good
 
   hearing-given : hearingIn p at-100 (asked others 280) ≡ given tt
   hearing-given = hearing-is others 280 at-100 ∙ watch.hears-at-100
@@ -166,6 +172,14 @@ module _ (p : Program) (meets : Meets p) where
   -- all is the same but what was heard between
   one-fewer : InventsTheCount p → ⊥
   one-fewer i = let z : _≡_ {A = ℕ} 179 178 = i .1 (asked quiet 280) _ rise ∙ sym (i .1 (asked busier 280) _ busier-rise) in omega arith
+
+  -- so too by its blocks: a program leaves not each as it was that keeps a reading
+  pub stores-in-the-block : ((s m : List ℕ) (c t : ℕ) → isPresent (recallOf s c t) ≡ true → p .hears s m .1 ≡ s) → ⊥
+  unfolding blockOf
+  stores-in-the-block h =
+      let s = blockOf p memory ship (at-100 ∷ others) in
+      let kept : isPresent (recallOf s 0 100) ≡ true = ap (λ (x : List ℕ). isPresent (recallOf x 0 100)) (block-is memory ship good (at-100 ∷ others)) ∙ watch.kept-at-100 in
+      one-more (ap (λ (x : List ℕ). pressureAs (p .pressure x 280)) (h s at-280 0 100 kept))
 
   pub no-empty-program : NoEmptyProgram p
   no-empty-program =

@@ -3,9 +3,10 @@ use mathlib.Core.Path.{_≡_, refl, ap}
 use mathlib.Core.Bool.{true, cond}
 use mathlib.Core.List.{List, [], _∷_, _++_}
 use Prim.Native.Nat.{ℕ, _/_, _%_}
-use lib.Dec.{T}
+use lib.Dec.{T, lit<}
 use lib.Ieee.{ofBits}
 use lib.IntN.{ℤ, pos, negℤ}
+use lib.ListN.{replicate}
 use Rattle.number.specs.Round.{nearest, rounded}
 use Rattle.number.specs.Refusal.{numbered, refused, given, answer}
 use Rattle.quantity.specs.Limits.{inside, bulb}
@@ -16,8 +17,9 @@ use Rattle.settings.specs.Settings.{checked, every, certificateHolds, othersHol
 use Rattle.settings.specs.declared.Settings.{Settings}
 use Rattle.settings.specs.declared.Point.{Point}
 use Rattle.window.specs.Window.{absents}
-use Rattle.store.specs.Block.{hearing, outcome}
-use Rattle.store.specs.History.{history, remembered, store-of}
+use Rattle.store.specs.Block.{hearing, outcome, recallOf}
+use Rattle.store.specs.History.{history, remembered, isPresent, store-of}
+use Rattle.store.proofs.HistoryLaws.{store-remembers}
 use Rattle.sine.specs.Sines.{sines}
 use Rattle.sine.specs.Sine.{fold, size, sine, cosine}
 use Rattle.pressure.specs.Pressure.{scaleFrom, scale, outside, temperature, height, seaLevel, stationPressure}
@@ -57,7 +59,7 @@ ship =
       coefficient = record { 0 = record { v = pos 0 } };
       psychrometer = record { 0 = record { v = pos 662 } };
       count = 2;
-      points = point 8500 ∷ point 11000 ∷ [];
+      points = point 8500 ∷ replicate 15 (point 11000);
     }
 
 -- Four bytes of a number; the message of a channel at a minute with the patterns of two values.
@@ -108,6 +110,10 @@ good = refl
 pub hears-at-100 : outcome (hearing (store-of ship others) at-100) ≡ given tt
 unfolding answer history received toWhole nearest ofBits
 hears-at-100 = ap outcome (message-by-messages ship good others at-100)
+
+pub kept-at-100 : isPresent (recallOf (store-of ship (at-100 ∷ others)) 0 100) ≡ true
+unfolding answer history received toWhole nearest ofBits remembered
+kept-at-100 = ap isPresent (store-remembers ship good (at-100 ∷ others) .cells 0 (lit< tt) 100)
 
 -- ---- pressure
 

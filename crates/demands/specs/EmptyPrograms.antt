@@ -111,12 +111,12 @@ Constant {A} ask = (u v : Use) (x y : A) → ask u ≡ given x → ask v ≡ giv
 abbrev pub after : Use → List ℕ → Use
 after u m = record { memory = u .memory; settings = u .settings; messages = m ∷ u .messages; minute = u .minute }
 
--- "one that stores nothing": no message changes an answer, whatever is said of it and whatever becomes of the block.
+-- "one that stores nothing": no message changes a pressure that it answers, whatever it says of the message and leaves in the block.
 abbrev pub StoresNothing : Program → Type 0
 StoresNothing p = (u : Use) (m : List ℕ) → pressureIn p (after u m) ≡ pressureIn p u
 
 -- "one that stores only the first message and merely says yes to the rest": after one that it says it heard, no other of that channel
--- (so none at all, where it stores only the first of all) changes an answer.
+-- changes a pressure. (So it is too where it stores but the first of all.)
 abbrev pub StoresOnlyTheFirst : Program → Type 0
 StoresOnlyTheFirst p =
     (u : Use) (m n : List ℕ) → channel m ≡ channel n → hearingIn p m u ≡ given tt → pressureIn p (after (after u m) n) ≡ pressureIn p (after u m)
