@@ -131,34 +131,34 @@ module _ (p : Program) (meets : Meets p) where
   hearing-given = hearing-is others 280 at-100 ∙ watch.hears-at-100
 
   pressure-100 : pressureIn p (asked quiet 100) ≡ pressureAs (pressed (pos 10000))
-  pressure-100 = pressure-is quiet 100 (pressed (pos 10000)) watch.pressure-at-100
+  pressure-100 = pressure-is quiet 100 (pressed (pos 10000)) (watch.pressures .0)
 
   pressure-280 : pressureIn p (asked quiet 280) ≡ pressureAs (pressed (pos 10010))
-  pressure-280 = pressure-is quiet 280 (pressed (pos 10010)) watch.pressure-at-280
+  pressure-280 = pressure-is quiet 280 (pressed (pos 10010)) (watch.pressures .1)
 
   no-pressure-280 : pressureIn p (asked (at-100 ∷ others) 280) ≡ pressureAs (missing 0 280)
-  no-pressure-280 = pressure-is (at-100 ∷ others) 280 (missing 0 280) watch.no-pressure-at-280
+  no-pressure-280 = pressure-is (at-100 ∷ others) 280 (missing 0 280) (watch.pressures .2)
 
   rise : tendencyIn p (asked quiet 280) ≡ tendencyAs (changed (pos 10) 179)
-  rise = tendency-is quiet 280 (changed (pos 10) 179) watch.quiet-at-280
+  rise = tendency-is quiet 280 (changed (pos 10) 179) (watch.tendencies .0)
 
   busier-rise : tendencyIn p (asked busier 280) ≡ tendencyAs (changed (pos 10) 178)
-  busier-rise = tendency-is busier 280 (changed (pos 10) 178) watch.busier-at-280
+  busier-rise = tendency-is busier 280 (changed (pos 10) 178) (watch.tendencies .1)
 
   fall : tendencyIn p (asked falling 280) ≡ tendencyAs (changed (negℤ (pos 10)) 179)
-  fall = tendency-is falling 280 (changed (negℤ (pos 10)) 179) watch.falling-at-280
+  fall = tendency-is falling 280 (changed (negℤ (pos 10)) 179) (watch.tendencies .2)
 
   wind-100 : windIn p (asked others 100) ≡ windAs (blown 48 60)
-  wind-100 = wind-is others 100 (blown 48 60) watch.wind-at-100
+  wind-100 = wind-is others 100 (blown 48 60) (watch.winds .0)
 
   wind-280 : windIn p (asked others 280) ≡ windAs (blown 51 210)
-  wind-280 = wind-is others 280 (blown 51 210) watch.wind-at-280
+  wind-280 = wind-is others 280 (blown 51 210) (watch.winds .1)
 
   humidity-100 : humidityIn p (asked quiet 100) ≡ humidityAs (moist 1366 2335 969 59 116)
-  humidity-100 = humidity-is quiet 100 (moist 1366 2335 969 59 116) watch.humidity-at-100
+  humidity-100 = humidity-is quiet 100 (moist 1366 2335 969 59 116) (watch.humidities .0)
 
   humidity-280 : humidityIn p (asked quiet 280) ≡ humidityAs (moist 611 611 0 100 0)
-  humidity-280 = humidity-is quiet 280 (moist 611 611 0 100 0) watch.humidity-at-280
+  humidity-280 = humidity-is quiet 280 (moist 611 611 0 100 0) (watch.humidities .1)
 
   -- ---- the five
 

@@ -1,14 +1,14 @@
 -- A watch, and what document 01 answers on it to each question, by computation. Assumes nothing.
 use mathlib.Core.Path.{_≡_, refl, ap}
-use mathlib.Core.Bool.{true, cond}
+use mathlib.Core.Bool.{true}
 use mathlib.Core.List.{List, [], _∷_, _++_}
-use Prim.Native.Nat.{ℕ, _/_, _%_}
+use Prim.Native.Nat.{ℕ}
 use lib.Dec.{T, lit<}
 use lib.Ieee.{ofBits}
 use lib.IntN.{ℤ, pos, negℤ}
 use lib.ListN.{replicate}
 use Rattle.number.specs.Round.{nearest, rounded}
-use Rattle.number.specs.Refusal.{numbered, refused, given, answer}
+use Rattle.number.specs.Refusal.{given, answer}
 use Rattle.quantity.specs.Limits.{inside, bulb}
 use Rattle.quantity.specs.declared.BarometerUnit.the-variants as unit
 use Rattle.message.specs.Value.{toWhole}
@@ -29,7 +29,7 @@ use Rattle.wind.proofs.WindTest.{isNearest, isWind, tested}
 use Rattle.vapour.specs.Vapour.{water, IsTable}
 use Rattle.vapour.proofs.SaturationLaws.{near-test, near-by-test, near-one}
 use Rattle.vapour.proofs.DewLaws.{dew-test, dew-by-test}
-use Rattle.humidity.specs.Humidity.{vapourPressure, tooDry}
+use Rattle.humidity.specs.Humidity.{vapourPressure}
 use Rattle.station.specs.Source.{heard}
 use Rattle.station.specs.Questions.{Answers}
 use Rattle.station.specs.Told.{TellsPressure, TellsTendency, TellsWind, TellsHumidity}
@@ -43,6 +43,7 @@ use Rattle.station.specs.declared.WindAnswer.the-variants as wind
 use Rattle.station.specs.declared.HumidityAnswer.{HumidityAnswer}
 use Rattle.station.specs.declared.HumidityAnswer.the-variants as humidity
 use Rattle.station.proofs.RefusalsInOrder.{message-by-messages}
+use Rattle.watchfile.specs.Bytes.{bytes32}
 
 -- ---- settings and messages
 
@@ -62,12 +63,9 @@ ship =
       points = point 8500 ∷ replicate 15 (point 11000);
     }
 
--- Four bytes of a number; the message of a channel at a minute with the patterns of two values.
-abbrev four : ℕ → List ℕ
-four n = n % 256 ∷ n / 256 % 256 ∷ n / 65536 % 256 ∷ n / 16777216 ∷ []
-
+-- The message of a channel at a minute with the patterns of two values.
 abbrev sent : ℕ → ℕ → ℕ → ℕ → List ℕ
-sent channel minute first second = channel ∷ 0 ∷ 0 ∷ 0 ∷ four minute ++ four first ++ four second
+sent channel minute first second = channel ∷ 0 ∷ 0 ∷ 0 ∷ bytes32 minute ++ bytes32 first ++ bytes32 second
 
 -- All but the barometer, at 100 and 280, newest first. Wheelhouse 12.5 °C; 2.5 m/s at 40° and course 260 at 12.5 kn, then 0 at 0° and
 -- course 30 at 10.0 kn; bulbs 20.0 and 15.0 °C, then both 0.0 °C.
@@ -120,50 +118,40 @@ kept-at-100 = ap isPresent (store-remembers ship good (at-100 ∷ others) .cells
 abbrev pub pressed : ℤ → PressureAnswer
 pressed p = pressure.Given (record { 0 = record { v = p } })
 
-pub pressure-at-100 : TellsPressure (heard ship quiet) 100 (pressed (pos 10000))
-unfolding Answers answer history received toWhole nearest rounded ofBits remembered every scaleFrom scale outside temperature height seaLevel
-pressure-at-100 = (refl, refl)
-
-pub pressure-at-280 : TellsPressure (heard ship quiet) 280 (pressed (pos 10010))
-unfolding Answers answer history received toWhole nearest rounded ofBits remembered every scaleFrom scale outside temperature height seaLevel
-pressure-at-280 = (refl, refl)
-
 abbrev pub missing : ℕ → ℕ → PressureAnswer
 missing channel minute = pressure.Refused (MissingReading channel (record { 0 = minute }))
 
-pub no-pressure-at-280 : TellsPressure (heard ship (at-100 ∷ others)) 280 (missing 0 280)
-unfolding Answers answer history received toWhole nearest ofBits remembered
-no-pressure-at-280 = refl
+pub pressures :
+    TellsPressure (heard ship quiet) 100 (pressed (pos 10000))
+    × TellsPressure (heard ship quiet) 280 (pressed (pos 10010))
+    × TellsPressure (heard ship (at-100 ∷ others)) 280 (missing 0 280)
+unfolding Answers answer history received toWhole nearest rounded ofBits remembered every scaleFrom scale outside temperature height seaLevel
+pressures = ((refl, refl), (refl, refl), refl)
 
 -- ---- tendency
 
 abbrev pub changed : ℤ → ℕ → TendencyAnswer
 changed c n = tendency.Given (record { 0 = record { v = c } }) n
 
-pub quiet-at-280 : TellsTendency (heard ship quiet) 280 (changed (pos 10) 179)
+pub tendencies :
+    TellsTendency (heard ship quiet) 280 (changed (pos 10) 179)
+    × TellsTendency (heard ship busier) 280 (changed (pos 10) 178)
+    × TellsTendency (heard ship falling) 280 (changed (negℤ (pos 10)) 179)
 unfolding Answers answer history received toWhole nearest rounded ofBits remembered absents every scaleFrom scale outside temperature height seaLevel
-quiet-at-280 = (refl, record { change = refl; absent = refl })
-
-pub busier-at-280 : TellsTendency (heard ship busier) 280 (changed (pos 10) 178)
-unfolding Answers answer history received toWhole nearest rounded ofBits remembered absents every scaleFrom scale outside temperature height seaLevel
-busier-at-280 = (refl, record { change = refl; absent = refl })
-
-pub falling-at-280 : TellsTendency (heard ship falling) 280 (changed (negℤ (pos 10)) 179)
-unfolding Answers answer history received toWhole nearest rounded ofBits remembered absents every scaleFrom scale outside temperature height seaLevel
-falling-at-280 = (refl, record { change = refl; absent = refl })
+tendencies = (
+  (refl, record { change = refl; absent = refl }),
+  (refl, record { change = refl; absent = refl }),
+  (refl, record { change = refl; absent = refl }),
+)
 
 -- ---- wind
 
 abbrev pub blown : ℕ → ℕ → WindAnswer
 blown v d = wind.Given (record { 0 = v }) (record { 0 = d })
 
-pub wind-at-100 : TellsWind (heard ship others) 100 (blown 48 60)
+pub winds : TellsWind (heard ship others) 100 (blown 48 60) × TellsWind (heard ship others) 280 (blown 51 210)
 unfolding Answers answer history received toWhole nearest ofBits remembered sines fold size sine cosine sum N M meets count between turned compass from withinLimits isNearest isWind
-wind-at-100 = (refl, tested 260 125 25 40 48 60 refl)
-
-pub wind-at-280 : TellsWind (heard ship others) 280 (blown 51 210)
-unfolding Answers answer history received toWhole nearest ofBits remembered sines fold size sine cosine sum N M meets count between turned compass from withinLimits isNearest isWind
-wind-at-280 = (refl, tested 30 100 0 0 51 210 refl)
+winds = ((refl, tested 260 125 25 40 48 60 refl), (refl, tested 30 100 0 0 51 210 refl))
 
 -- ---- humidity
 
@@ -178,32 +166,32 @@ moist e saturation deficit relative dew =
       dew = record { 0 = record { v = pos dew } };
     })
 
--- a table's entry of a wet bulb
+-- any table's entry of a wet bulb
 entry-is : (table : ℤ → ℕ) → IsTable table → (t : ℤ) (n : ℕ) → inside bulb t ≡ true → T (near-test water t n) → table t ≡ n
 entry-is table tabled t n i passed = near-one water t (table t) n (tabled t i) (near-by-test water t n passed)
 
-pub humidity-at-100 : TellsHumidity [] (heard ship quiet) 100 (moist 1366 2335 969 59 116)
+pub humidities :
+    TellsHumidity [] (heard ship quiet) 100 (moist 1366 2335 969 59 116) × TellsHumidity [] (heard ship quiet) 280 (moist 611 611 0 100 0)
 unfolding Answers answer history received toWhole nearest rounded ofBits remembered every scaleFrom scale outside stationPressure vapourPressure near-test dew-test
-humidity-at-100 table tabled = (
-  ap (λ (n : ℕ). cond (tooDry (vapourPressure n (pos 662) (pos 10000) (pos 200) (pos 150))) (refused (numbered 15 [])) (given tt)) (entry-is table tabled (pos 150) 1703 refl tt),
-  record {
-    entry = 1703;
-    near = near-by-test water (pos 150) 1703 tt;
-    saturation = near-by-test water (pos 200) 2335 tt;
-    e = refl;
-    follow = record { deficit = refl; relative = refl; dew = dew-by-test 1366 (pos 116) tt };
-  },
-)
-
-pub humidity-at-280 : TellsHumidity [] (heard ship quiet) 280 (moist 611 611 0 100 0)
-unfolding Answers answer history received toWhole nearest rounded ofBits remembered every scaleFrom scale outside stationPressure vapourPressure near-test dew-test
-humidity-at-280 table tabled = (
-  ap (λ (n : ℕ). cond (tooDry (vapourPressure n (pos 662) (pos 10010) (pos 0) (pos 0))) (refused (numbered 15 [])) (given tt)) (entry-is table tabled (pos 0) 611 refl tt),
-  record {
-    entry = 611;
-    near = near-by-test water (pos 0) 611 tt;
-    saturation = near-by-test water (pos 0) 611 tt;
-    e = refl;
-    follow = record { deficit = refl; relative = refl; dew = dew-by-test 611 (pos 0) tt };
-  },
+humidities = (
+  λ table tabled. (
+    rw (entry-is table tabled (pos 150) 1703 refl tt),
+    record {
+      entry = 1703;
+      near = near-by-test water (pos 150) 1703 tt;
+      saturation = near-by-test water (pos 200) 2335 tt;
+      e = refl;
+      follow = record { deficit = refl; relative = refl; dew = dew-by-test 1366 (pos 116) tt };
+    },
+  ),
+  λ table tabled. (
+    rw (entry-is table tabled (pos 0) 611 refl tt),
+    record {
+      entry = 611;
+      near = near-by-test water (pos 0) 611 tt;
+      saturation = near-by-test water (pos 0) 611 tt;
+      e = refl;
+      follow = record { deficit = refl; relative = refl; dew = dew-by-test 611 (pos 0) tt };
+    },
+  ),
 )
