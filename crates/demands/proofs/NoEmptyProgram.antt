@@ -1,6 +1,7 @@
--- None of the five empty programs meets the contracts. The block of a program that does is the one that settings and messages make, so
--- on one watch its answers are known: each question gives figures, at one minute others than at another; a message changes them after
--- another was heard; and one reading more between leaves one minute fewer absent, with all the rest the same. Assumes nothing.
+-- None of the five empty programs meets the contracts. The block of a program that meets them is what settings and messages make, so its
+-- answers on a watch are known: every question gets figures, and others at 280 than at 100; the last message turns a refusal into a
+-- pressure, though one of its channel was heard before it; and with one reading more between, one minute fewer is absent and all else is
+-- the same. Assumes nothing.
 use mathlib.Core.Path.{_≡_, refl, sym, ap, subst, _∙_}
 use mathlib.Core.Bool.{true}
 use mathlib.Core.List.{List, [], _∷_}
@@ -32,6 +33,7 @@ use Rattle.demands.specs.EmptyPrograms.{Program, Meets, Use, blockOf, op
 use Rattle.demands.proofs.WatchAnswers as watch
 use Rattle.demands.proofs.WatchAnswers.{ship, good, others, at-100, at-280, quiet, busier, falling, pressed, missing, changed, blown, moist}
 
+-- A program is none of the five.
 pub record NoEmptyProgram (p : Program) : Type 0 where
   -- "one that refuses everything"
   pub opening-not-refused : Refuses (openingIn p) → ⊥
@@ -76,6 +78,8 @@ speed OutsideLimits = 0
 abbrev relative : HumidityFigures → ℕ
 relative h = h .relative
 
+-- ---- a program that meets the contracts
+
 module _ (p : Program) (meets : Meets p) where
   block-is : (s : List ℕ) (g : Settings) → checked g ≡ given tt → (M : List (List ℕ)) → blockOf p s g M ≡ store-of g M
   unfolding blockOf
@@ -90,8 +94,7 @@ module _ (p : Program) (meets : Meets p) where
     unfolding b
     is = block-is memory ship good M
 
-    -- ---- what it answers on a watch
-
+    -- what it answers after any messages is what they come to
     pressure-is : (r : PressureAnswer) → TellsPressure (heard ship M) m r → pressureIn p (asked M m) ≡ pressureAs r
     unfolding b
     pressure-is r w =
@@ -123,6 +126,8 @@ module _ (p : Program) (meets : Meets p) where
     hearing-is : (n : List ℕ) → hearingIn p n (asked M m) ≡ outcome (hearing (store-of ship M) n)
     unfolding b
     hearing-is n = meets .hears ([], ([], tt)) (lent b, (lent n, tt)) .answer ∙ ap (λ (x : List ℕ). outcome (hearing x n)) is
+
+  -- ---- on the watch
 
   opening-given : openingIn p (asked [] 0) ≡ given tt
   opening-given = meets .opens ([], tt) (lent memory, (ship, tt)) .0 ∙ good
@@ -162,18 +167,18 @@ module _ (p : Program) (meets : Meets p) where
 
   -- ---- the five
 
-  -- the last message made a pressure of a refusal
+  -- the last message turned a refusal into a pressure
   one-more : pressureIn p (asked quiet 280) ≡ pressureIn p (asked (at-100 ∷ others) 280) → ⊥
   one-more e =
       let z : pressureAs (pressed (pos 10010)) ≡ pressureAs (missing 0 280) = sym pressure-280 ∙ e ∙ no-pressure-280 in
       let y : _≡_ {A = ℕ} 0 1 = cc in
       omega arith
 
-  -- all is the same but what was heard between
+  -- settings, minute and change are the same, and the counts are not
   one-fewer : InventsTheCount p → ⊥
   one-fewer i = let z : _≡_ {A = ℕ} 179 178 = i .1 (asked quiet 280) _ rise ∙ sym (i .1 (asked busier 280) _ busier-rise) in omega arith
 
-  -- so too by its blocks: a program leaves not each as it was that keeps a reading
+  -- By its blocks: it does not leave each as it was that keeps a reading already, still less each there is.
   pub stores-in-the-block : ((s m : List ℕ) (c t : ℕ) → isPresent (recallOf s c t) ≡ true → p .hears s m .1 ≡ s) → ⊥
   unfolding blockOf
   stores-in-the-block h =
