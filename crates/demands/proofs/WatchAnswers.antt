@@ -1,0 +1,197 @@
+-- A watch, and what document 01 answers on it to each question, by computation. Assumes nothing.
+use mathlib.Core.Path.{_≡_, refl, ap}
+use mathlib.Core.Bool.{true}
+use mathlib.Core.List.{List, [], _∷_, _++_}
+use Prim.Native.Nat.{ℕ}
+use lib.Dec.{T, lit<}
+use lib.Ieee.{ofBits}
+use lib.IntN.{ℤ, pos, negℤ}
+use lib.ListN.{replicate}
+use Rattle.number.specs.Round.{nearest, rounded}
+use Rattle.number.specs.Refusal.{given, answer}
+use Rattle.quantity.specs.Limits.{inside, bulb}
+use Rattle.quantity.specs.declared.BarometerUnit.the-variants as unit
+use Rattle.message.specs.Value.{toWhole}
+use Rattle.message.specs.Receive.{received}
+use Rattle.settings.specs.Settings.{checked, every, certificateHolds, othersHold}
+use Rattle.settings.specs.declared.Settings.{Settings}
+use Rattle.settings.specs.declared.Point.{Point}
+use Rattle.window.specs.Window.{absents}
+use Rattle.store.specs.Block.{hearing, outcome, recallOf}
+use Rattle.store.specs.History.{history, remembered, isPresent, store-of}
+use Rattle.store.proofs.HistoryLaws.{store-remembers}
+use Rattle.sine.specs.Sines.{sines}
+use Rattle.sine.specs.Sine.{fold, size, sine, cosine}
+use Rattle.pressure.specs.Pressure.{scaleFrom, scale, outside, temperature, height, seaLevel, stationPressure}
+use Rattle.wind.specs.Wind.{sum, N, M, meets, count, between, turned, compass, from}
+use Rattle.wind.specs.Answer.{withinLimits}
+use Rattle.wind.proofs.WindTest.{isNearest, isWind, tested}
+use Rattle.vapour.specs.Vapour.{water, IsTable}
+use Rattle.vapour.proofs.SaturationLaws.{near-test, near-by-test, near-one}
+use Rattle.vapour.proofs.DewLaws.{dew-test, dew-by-test}
+use Rattle.humidity.specs.Humidity.{vapourPressure}
+use Rattle.station.specs.Source.{heard}
+use Rattle.station.specs.Questions.{Answers}
+use Rattle.station.specs.Told.{TellsPressure, TellsTendency, TellsWind, TellsHumidity}
+use Rattle.station.specs.declared.QuestionRefusal.the-variants.{MissingReading}
+use Rattle.station.specs.declared.PressureAnswer.{PressureAnswer}
+use Rattle.station.specs.declared.PressureAnswer.the-variants as pressure
+use Rattle.station.specs.declared.TendencyAnswer.{TendencyAnswer}
+use Rattle.station.specs.declared.TendencyAnswer.the-variants as tendency
+use Rattle.station.specs.declared.WindAnswer.{WindAnswer}
+use Rattle.station.specs.declared.WindAnswer.the-variants as wind
+use Rattle.station.specs.declared.HumidityAnswer.{HumidityAnswer}
+use Rattle.station.specs.declared.HumidityAnswer.the-variants as humidity
+use Rattle.station.proofs.RefusalsInOrder.{message-by-messages}
+use Rattle.watchfile.specs.Bytes.{bytes32}
+
+-- ---- settings and messages
+
+abbrev point : ℕ → Point
+point reading = record { reading = record { v = pos reading }; correction = record { 0 = record { v = pos 0 } } }
+
+-- In hPa at sea level; certificate 850.0:0, 1100.0:0; A 662.
+abbrev pub ship : Settings
+ship =
+    record {
+      unit = unit.Hectopascals;
+      height = record { 0 = record { v = pos 0 } };
+      difference = record { 0 = record { v = pos 0 } };
+      coefficient = record { 0 = record { v = pos 0 } };
+      psychrometer = record { 0 = record { v = pos 662 } };
+      count = 2;
+      points = point 8500 ∷ replicate 15 (point 11000);
+    }
+
+-- The message of a channel at a minute with the patterns of two values.
+abbrev sent : ℕ → ℕ → ℕ → ℕ → List ℕ
+sent channel minute first second = channel ∷ 0 ∷ 0 ∷ 0 ∷ bytes32 minute ++ bytes32 first ++ bytes32 second
+
+-- All but the barometer, at 100 and 280, newest first. Wheelhouse 12.5 °C; 2.5 m/s at 40° and course 260 at 12.5 kn, then 0 at 0° and
+-- course 30 at 10.0 kn; bulbs 20.0 and 15.0 °C, then both 0.0 °C.
+abbrev pub others : List (List ℕ)
+others =
+    sent 5 280 0 0
+    ∷ sent 4 280 0 0
+    ∷ sent 3 280 0x4120_0000 0x41f0_0000
+    ∷ sent 2 280 0 0
+    ∷ sent 1 280 0x4148_0000 0
+    ∷ sent 5 100 0x4170_0000 0
+    ∷ sent 4 100 0x41a0_0000 0
+    ∷ sent 3 100 0x4148_0000 0x4382_0000
+    ∷ sent 2 100 0x4020_0000 0x4220_0000
+    ∷ sent 1 100 0x4148_0000 0
+    ∷ []
+
+-- Then the barometer: 1000.0 hPa at 100; at 280 1001.0, with nothing or another reading between, or 999.0.
+abbrev pub at-100 : List ℕ
+at-100 = sent 0 100 0x447a_0000 0
+
+abbrev pub at-280 : List ℕ
+at-280 = sent 0 280 0x447a_4000 0
+
+abbrev pub quiet : List (List ℕ)
+quiet = at-280 ∷ at-100 ∷ others
+
+abbrev pub busier : List (List ℕ)
+busier = at-280 ∷ sent 0 200 0x447a_0000 0 ∷ at-100 ∷ others
+
+abbrev pub falling : List (List ℕ)
+falling = sent 0 280 0x4479_c000 0 ∷ at-100 ∷ others
+
+pub good : checked ship ≡ given tt
+unfolding checked answer every certificateHolds othersHold
+good = refl
+
+-- ---- hearing
+
+pub hears-at-100 : outcome (hearing (store-of ship others) at-100) ≡ given tt
+unfolding answer history received toWhole nearest ofBits
+hears-at-100 = ap outcome (message-by-messages ship good others at-100)
+
+pub kept-at-100 : isPresent (recallOf (store-of ship (at-100 ∷ others)) 0 100) ≡ true
+unfolding answer history received toWhole nearest ofBits remembered
+kept-at-100 = ap isPresent (store-remembers ship good (at-100 ∷ others) .cells 0 (lit< tt) 100)
+
+-- ---- pressure
+
+abbrev pub pressed : ℤ → PressureAnswer
+pressed p = pressure.Given (record { 0 = record { v = p } })
+
+abbrev pub missing : ℕ → ℕ → PressureAnswer
+missing channel minute = pressure.Refused (MissingReading channel (record { 0 = minute }))
+
+pub pressures :
+    TellsPressure (heard ship quiet) 100 (pressed (pos 10000))
+    × TellsPressure (heard ship quiet) 280 (pressed (pos 10010))
+    × TellsPressure (heard ship (at-100 ∷ others)) 280 (missing 0 280)
+unfolding Answers answer history received toWhole nearest rounded ofBits remembered every scaleFrom scale outside temperature height seaLevel
+pressures = ((refl, refl), (refl, refl), refl)
+
+-- ---- tendency
+
+abbrev pub changed : ℤ → ℕ → TendencyAnswer
+changed c n = tendency.Given (record { 0 = record { v = c } }) n
+
+pub tendencies :
+    TellsTendency (heard ship quiet) 280 (changed (pos 10) 179)
+    × TellsTendency (heard ship busier) 280 (changed (pos 10) 178)
+    × TellsTendency (heard ship falling) 280 (changed (negℤ (pos 10)) 179)
+unfolding Answers answer history received toWhole nearest rounded ofBits remembered absents every scaleFrom scale outside temperature height seaLevel
+tendencies = (
+  (refl, record { change = refl; absent = refl }),
+  (refl, record { change = refl; absent = refl }),
+  (refl, record { change = refl; absent = refl }),
+)
+
+-- ---- wind
+
+abbrev pub blown : ℕ → ℕ → WindAnswer
+blown v d = wind.Given (record { 0 = v }) (record { 0 = d })
+
+pub winds : TellsWind (heard ship others) 100 (blown 48 60) × TellsWind (heard ship others) 280 (blown 51 210)
+unfolding Answers answer history received toWhole nearest ofBits remembered sines fold size sine cosine sum N M meets count between turned compass from withinLimits isNearest isWind
+winds = ((refl, tested 260 125 25 40 48 60 refl), (refl, tested 30 100 0 0 51 210 refl))
+
+-- ---- humidity
+
+abbrev pub moist : ℕ → ℕ → ℕ → ℕ → ℕ → HumidityAnswer
+moist e saturation deficit relative dew =
+    humidity.Given
+    (record {
+      e = record { 0 = e };
+      saturation = record { 0 = saturation };
+      deficit = record { 0 = deficit };
+      relative = relative;
+      dew = record { 0 = record { v = pos dew } };
+    })
+
+-- any table's entry of a wet bulb
+entry-is : (table : ℤ → ℕ) → IsTable table → (t : ℤ) (n : ℕ) → inside bulb t ≡ true → T (near-test water t n) → table t ≡ n
+entry-is table tabled t n i passed = near-one water t (table t) n (tabled t i) (near-by-test water t n passed)
+
+pub humidities :
+    TellsHumidity [] (heard ship quiet) 100 (moist 1366 2335 969 59 116) × TellsHumidity [] (heard ship quiet) 280 (moist 611 611 0 100 0)
+unfolding Answers answer history received toWhole nearest rounded ofBits remembered every scaleFrom scale outside stationPressure vapourPressure near-test dew-test
+humidities = (
+  λ table tabled. (
+    rw (entry-is table tabled (pos 150) 1703 refl tt),
+    record {
+      entry = 1703;
+      near = near-by-test water (pos 150) 1703 tt;
+      saturation = near-by-test water (pos 200) 2335 tt;
+      e = refl;
+      follow = record { deficit = refl; relative = refl; dew = dew-by-test 1366 (pos 116) tt };
+    },
+  ),
+  λ table tabled. (
+    rw (entry-is table tabled (pos 0) 611 refl tt),
+    record {
+      entry = 611;
+      near = near-by-test water (pos 0) 611 tt;
+      saturation = near-by-test water (pos 0) 611 tt;
+      e = refl;
+      follow = record { deficit = refl; relative = refl; dew = dew-by-test 611 (pos 0) tt };
+    },
+  ),
+)
