@@ -12,7 +12,6 @@ use command::Unhexed;
 use libc::STDIN_FILENO;
 use libc::STDOUT_FILENO;
 use listing::Listed;
-use message::MessageRefusal;
 use reader::Verdict;
 use settings::Checked;
 use station::HumidityAnswer;
@@ -24,6 +23,7 @@ use store::Store;
 use watchfile::Body;
 use watchfile::RECORDS;
 use watchfile::Record;
+use wire::MessageRefusal;
 use writer::Written;
 
 // The longest line, without its end.

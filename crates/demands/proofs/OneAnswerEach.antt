@@ -30,8 +30,9 @@ use Rattle.quantity.proofs.Millimetres.hectopascals.Reads as quantity-Millimetr
 use Rattle.quantity.proofs.MetresPerSecond.parts.Reads as quantity-MetresPerSecond-parts
 use Rattle.quantity.proofs.Knots.parts.Reads as quantity-Knots-parts
 use Rattle.quantity.proofs.Degrees.keep.Reads as quantity-Degrees-keep
+use Rattle.wire.proofs.SingleAnswers as wire
+use Rattle.wire.proofs.decode.Reads as wire-decode
 use Rattle.message.proofs.SingleAnswers as message
-use Rattle.message.proofs.decode.Reads as message-decode
 use Rattle.message.proofs.receive.Reads as message-receive
 use Rattle.settings.proofs.SingleAnswers as settings
 use Rattle.settings.proofs.Height.holds.Reads as settings-Height-holds
@@ -166,8 +167,9 @@ pub record OneAnswerEach : Type 0 where
   pub quantity-MetresPerSecond-parts-single : Single quantity-MetresPerSecond-parts.Post
   pub quantity-Knots-parts-single : Single quantity-Knots-parts.Post
   pub quantity-Degrees-keep-single : Single quantity-Degrees-keep.Post
+  -- wire
+  pub wire-decode-single : Single wire-decode.Post
   -- message
-  pub message-decode-single : Single message-decode.Post
   pub message-receive-single : Single message-receive.Post
   -- settings
   pub settings-Height-holds-single : Single settings-Height-holds.Post
@@ -328,7 +330,7 @@ one-answer-each =
       quantity-MetresPerSecond-parts-single = quantity.single-metres-parts;
       quantity-Knots-parts-single = quantity.single-knots-parts;
       quantity-Degrees-keep-single = quantity.single-degrees-keep;
-      message-decode-single = message.single-decode;
+      wire-decode-single = wire.single-decode;
       message-receive-single = message.single-receive;
       settings-Height-holds-single = settings.single-height;
       settings-SeaLevelDifference-holds-single = settings.single-difference;

@@ -11,9 +11,15 @@ use lib.Pow.{pow-add, pow-pos, pow-mono, pow-lt, shl-lt}
 use lib.Ieee.{Float, nan, inf, fin, binary32, binary64, up, down, unlike, round, mul, fits, ofBits, isNan}
 use lib.Ieee.Fits.{and-i, and-l, and-r, down-pos, fits-widens}
 use lib.Ieee.Exact.{HasValue, round-exact}
-use Rattle.message.specs.Value.{Finite}
-use Rattle.message.specs.Work.{TenTimes, capped}
+use Rattle.wire.specs.Finite.{Finite}
+use Rattle.message.specs.Work.{capped}
 use Rattle.message.proofs.Pattern.{value-whole, finite-no-nan}
+
+-- y is exactly ten times x.
+abbrev TenTimes : Float → Float → Type 0
+TenTimes nan y = ⊥
+TenTimes (inf minus) y = ⊥
+TenTimes (fin minus m e) y = HasValue y minus (10 * (m * up e)) (down e)
 
 -- what `fits` says of an f32 that is not zero
 fits-says : (s : Bool) (m : ℕ) (e : ℤ) → T (fits binary32 (fin s (suc m) e)) → (suc m < 2 ^ 24) × (down e ≤ 2 ^ 149) × (suc m * up e < 2 ^ 128 * down e)

@@ -13,13 +13,13 @@ use Rattle.number.proofs.Sizes.{within-size, natural, and-true}
 use Rattle.quantity.specs.Limits.{Limits, inside, pressureLimits, hectopascals, millimetres, wheelhouse, bulb, metresPerSecond, knots, degrees}
 use Rattle.quantity.specs.declared.BarometerUnit.{BarometerUnit}
 use Rattle.quantity.specs.declared.BarometerUnit.the-variants.{Hectopascals, Millimetres}
-use Rattle.message.specs.Bytes.{minute}
-use Rattle.message.specs.Decode.{message}
+use Rattle.wire.specs.Bytes.{minute}
+use Rattle.wire.specs.Decode.{message}
 use Rattle.message.specs.Value.{tenths}
 use Rattle.message.specs.Value as value
 use Rattle.message.specs.Receive.{hPa, mmHg, °C, m/s, kn, deg, none, Entry, entry, outside, compass, pressure, received}
-use Rattle.message.specs.declared.Message.{Message}
-use Rattle.message.specs.declared.Message.the-variants.{Barometer, Wheelhouse, ApparentWind, ShipMotion, DryBulb, WetBulb}
+use Rattle.wire.specs.declared.Message.{Message}
+use Rattle.wire.specs.declared.Message.the-variants.{Barometer, Wheelhouse, ApparentWind, ShipMotion, DryBulb, WetBulb}
 use Rattle.store.specs.Layout.{CHANNELS}
 use Rattle.store.specs.Cells.{biased, unbiased, cellOf, entryIn, soundIn}
 use Rattle.store.proofs.ReceivedLaws.{received-is, received-inside}

@@ -11,9 +11,9 @@ use borrow.Author.Tests.{eqb-true, ltb-false, not-false}
 use Rattle.number.specs.Refusal.{given, HoldsAt}
 use Rattle.number.proofs.RefusalLaws.{given-then, given-is}
 use Rattle.quantity.specs.declared.BarometerUnit.{BarometerUnit}
-use Rattle.message.specs.Bytes.{channel, minute, first, second}
-use Rattle.message.specs.Kinds.{kind}
-use Rattle.message.specs.Decode.{message}
+use Rattle.wire.specs.Bytes.{channel, minute, first, second}
+use Rattle.wire.specs.Kinds.{kind}
+use Rattle.wire.specs.Decode.{message}
 use Rattle.message.specs.Receive.{Entry, entry, outside, tests, received}
 
 pub fails : (b : Bool) → (T b → ⊥) → b ≡ false

@@ -19,6 +19,7 @@ use Rattle.quantity.specs.declared.BarometerUnit.{BarometerUnit}
 use Rattle.quantity.specs.declared.BarometerUnit.the-variants.{Hectopascals, Millimetres}
 use Rattle.settings.specs.declared.Settings.{Settings}
 use Rattle.settings.specs.declared.Point.{Point}
+use Rattle.message.proofs.Keep.{pressure-size}
 use Rattle.store.specs.Layout.{POINTS, WORDS}
 use Rattle.store.specs.Cells.{biased, unbiased}
 use Rattle.store.specs.Block.{unitWord, pointWord, openedWord, listed, opened, unitOf, settingOf, pointsOf, pointIn, pointOf}
@@ -36,10 +37,6 @@ within-16 l z k small lo hi i = plain z (omega (arith, within-size (l .low) (l .
 
 both-halves : (a b : ℕ) → a < 65536 → b < 65536 → ((a + 65536 * b) % 65536 ≡ a) × ((a + 65536 * b) / 65536 ≡ b)
 both-halves a b h k = (omega arith, omega arith)
-
-pub pressure-size : (u : BarometerUnit) (z : ℤ) → inside (pressureLimits u) z ≡ true → natAbs z < 32768
-pressure-size Hectopascals z i = omega (arith, within-size (pos 8500) (pos 11000) z 11000 (lit≤ tt) (lit≤ tt) i)
-pressure-size Millimetres z i = omega (arith, within-size (pos 6400) (pos 8250) z 8250 (lit≤ tt) (lit≤ tt) i)
 
 point-back : (u : BarometerUnit) (p : Point) → pointHolds u p ≡ true → pointIn (pointWord p) ≡ p
 point-back u p e =

@@ -9,9 +9,10 @@ use Rattle.number.specs.Refusal.{Answer, refused, given}
 use Rattle.number.specs.declared.Kept.{Kept}
 use Rattle.number.proofs.SingleAnswers.{kept-by}
 use Rattle.message.specs.Receive.{Entry, entryOf}
-use Rattle.message.proofs.SingleAnswers.{refusal, refusal-back, reading, entry-back}
-use Rattle.message.specs.declared.MessageRefusal.{MessageRefusal}
-use Rattle.message.specs.declared.MessageRefusal.the-variants.{NotSixteenBytes, NoSuchChannel, ByteNotZero, WetBulbNotWater, MinuteTooLate, NotFinite, OutsideLimits}
+use Rattle.wire.proofs.SingleAnswers.{refusal, refusal-back}
+use Rattle.message.proofs.SingleAnswers.{reading, entry-back}
+use Rattle.wire.specs.declared.MessageRefusal.{MessageRefusal}
+use Rattle.wire.specs.declared.MessageRefusal.the-variants.{NotSixteenBytes, NoSuchChannel, ByteNotZero, WetBulbNotWater, MinuteTooLate, NotFinite, OutsideLimits}
 use Rattle.settings.proofs.SingleAnswers.{case-of, case-back}
 use Rattle.settings.specs.declared.Height.{Height}
 use Rattle.settings.specs.declared.SeaLevelDifference.{SeaLevelDifference}

@@ -11,7 +11,7 @@ use borrow.Author.Tests.{leb-true, lt-ltb, eq-eqb, ne-eqb}
 use Rattle.number.specs.Refusal.{Answer, refused, given}
 use Rattle.number.proofs.Sizes.{and-true}
 use Rattle.quantity.specs.declared.BarometerUnit.{BarometerUnit}
-use Rattle.message.specs.Bytes.{channel}
+use Rattle.wire.specs.Bytes.{channel}
 use Rattle.message.specs.Receive.{Entry, received}
 use Rattle.window.specs.Layout.{MINUTES, WINDOW}
 use Rattle.window.specs.Window.{present, accepted, absents}

@@ -9,8 +9,8 @@ use lib.ListN.{getD, take, drop, length}
 use Rattle.number.specs.Refusal.{Test, Answer, refused, given, answer}
 use Rattle.quantity.specs.declared.BarometerUnit.{BarometerUnit}
 use Rattle.quantity.specs.declared.BarometerUnit.the-variants.{Hectopascals, Millimetres}
-use Rattle.message.specs.Bytes.{minute}
-use Rattle.message.specs.Decode.{message, numberOf}
+use Rattle.wire.specs.Bytes.{minute}
+use Rattle.wire.specs.Decode.{message, numberOf}
 use Rattle.message.specs.Receive.{Entry, entry, entryOf, tests}
 use Rattle.settings.specs.Settings.{checked, nowhere, pointAt}
 use Rattle.settings.specs.declared.Settings.{Settings}

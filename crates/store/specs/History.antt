@@ -7,7 +7,7 @@ use lib.Dec.{eqb, leb}
 use lib.ListN.{length}
 use Rattle.number.specs.Refusal.{Answer, refused, given}
 use Rattle.quantity.specs.declared.BarometerUnit.{BarometerUnit}
-use Rattle.message.specs.Bytes.{channel}
+use Rattle.wire.specs.Bytes.{channel}
 use Rattle.message.specs.Receive.{Entry, received}
 use Rattle.settings.specs.declared.Settings.{Settings}
 use Rattle.window.specs.Layout.{MINUTES}

@@ -11,7 +11,6 @@ ghost use Rattle.window.specs.Layout.{WINDOW};
 ghost use Rattle.store.specs.Layout.{CHANNELS, SETTINGS, WORDS};
 ghost use Rattle.store.specs.Cells.{biased, unbiased, cellOf};
 ghost use Rattle.store.specs.Block.{unitWord, pointWord, openedWord, opened, openedBy, unitOf, settingOf, pointsOf, pointOf, windowOf, recallIn, recallOf, recalledAs, absentOf, Keeps, Hears};
-use message::MessageRefusal;
 use message::Reading;
 use message::Received;
 use number::Kept;
@@ -34,6 +33,7 @@ use settings::Settings;
 use settings::TemperatureCoefficient;
 use window::Found;
 use window::WINDOW;
+use wire::MessageRefusal;
 
 pub const CHANNELS: usize = 6;
 

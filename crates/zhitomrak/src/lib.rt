@@ -19,7 +19,6 @@ ghost use Rattle.zhitomrak.specs.Opening.{unitIn, settingsIn, OpenedAs};
 ghost use Rattle.zhitomrak.specs.Files.{half, octet, recordIn, nothing, fileOf, fileIn, pressureBody, tendencyBody, windBody, humidityBody, bodyOf, recordOf, writeIn, WroteAs, listedBy, ListedAs};
 use humidity::HumidityFigures;
 use listing::Listed;
-use message::MessageRefusal;
 use number::Kept;
 use number::Number;
 use quantity::BarometerUnit;
@@ -42,6 +41,7 @@ use store::Store;
 use watchfile::Body;
 use watchfile::RECORDS;
 use watchfile::Record;
+use wire::MessageRefusal;
 use writer::Written;
 
 // The settings of a store. The unit is 0 for hPa and 1 for mm Hg.

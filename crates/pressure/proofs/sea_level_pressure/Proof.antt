@@ -9,7 +9,7 @@ use Rattle.number.proofs.Sizes.{within-size}
 use Rattle.quantity.specs.Limits.{wheelhouse}
 use Rattle.settings.proofs.HoldsLaws.{kept-inside}
 use Rattle.store.specs.Block.{unitOf}
-use Rattle.store.proofs.SettingsLaws.{pressure-size}
+use Rattle.message.proofs.Keep.{pressure-size}
 use Rattle.pressure.specs.Pressure.{barometerOf}
 use Rattle.pressure.proofs.SizeLaws.{scale-stored}
 use Rattle.pressure.proofs.AnswerLaws.{by-unit, none-there, worked, sea-limits, sea-limits-2, sea-outside, sea-given}

@@ -5,7 +5,7 @@ use denote.Ref.{now}
 use lib.IntN.{natAbs}
 use borrow.Author.Tests.{not-true, not-false}
 use Rattle.store.specs.Block.{unitOf}
-use Rattle.store.proofs.SettingsLaws.{pressure-size}
+use Rattle.message.proofs.Keep.{pressure-size}
 use Rattle.pressure.specs.Pressure.{barometerOf}
 use Rattle.pressure.proofs.SizeLaws.{scale-stored}
 use Rattle.pressure.proofs.AnswerLaws.{by-unit, none-there, worked, station-limits, station-outside, station-given}

@@ -6,14 +6,14 @@ use lib.Dec.{eqb, ltb, leb}
 use lib.ListN.{length}
 use Rattle.number.specs.Refusal.{Test, Answer, refused, given, answer}
 use Rattle.quantity.specs.Limits.{lastMinute}
-use Rattle.message.specs.Bytes.{channel, minute, first, second, stray, notWater}
-use Rattle.message.specs.Value.{isFinite}
-use Rattle.message.specs.Kinds.{kind}
-use Rattle.message.specs.declared.MessageRefusal.{MessageRefusal}
-use Rattle.message.specs.declared.MessageRefusal.the-variants.{NotSixteenBytes, NoSuchChannel, ByteNotZero, WetBulbNotWater, MinuteTooLate, NotFinite, OutsideLimits}
-use Rattle.message.specs.declared.Message.{Message}
-use Rattle.message.specs.declared.Decoded.{Decoded}
-use Rattle.message.specs.declared.Decoded.the-variants.{Refused, At}
+use Rattle.wire.specs.Bytes.{channel, minute, first, second, stray, notWater}
+use Rattle.wire.specs.Finite.{isFinite}
+use Rattle.wire.specs.Kinds.{kind}
+use Rattle.wire.specs.declared.MessageRefusal.{MessageRefusal}
+use Rattle.wire.specs.declared.MessageRefusal.the-variants.{NotSixteenBytes, NoSuchChannel, ByteNotZero, WetBulbNotWater, MinuteTooLate, NotFinite, OutsideLimits}
+use Rattle.wire.specs.declared.Message.{Message}
+use Rattle.wire.specs.declared.Decoded.{Decoded}
+use Rattle.wire.specs.declared.Decoded.the-variants.{Refused, At}
 
 abbrev pub test : ℕ → Bool → Test ℕ
 test n reason = record { refusal = n; holds = reason }

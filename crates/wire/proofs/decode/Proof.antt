@@ -9,23 +9,21 @@ use lib.Ieee.{Float, binary32, ofBits}
 use borrow.Author.Tests.{eq-eqb, ne-eqb, lt-ltb, le-ltb, not-true, not-false}
 use Rattle.number.specs.Refusal.{Answer, given, answer}
 use Rattle.quantity.specs.Limits.{lastMinute}
-use Rattle.message.specs.Value.{isFinite}
-use Rattle.message.specs.Bytes.{channel, minute, first, second}
-use Rattle.message.specs.Kinds.{kind}
-use Rattle.message.specs.Decode.{Sent, sent, decoded}
-use Rattle.message.specs.declared.Message.{Message}
-use Rattle.message.specs.Work.{finiteBits}
-use Rattle.message.proofs.Pattern.{bits-test}
+use Rattle.wire.specs.Finite.{isFinite}
+use Rattle.wire.specs.Bytes.{channel, minute, first, second}
+use Rattle.wire.specs.Kinds.{kind}
+use Rattle.wire.specs.Decode.{Sent, sent, decoded}
+use Rattle.wire.specs.declared.Message.{Message}
 use borrow.Author.Needs.{needs}
-use Rattle.message.proofs.decode.Statement.{statement}
-use Rattle.message.proofs.decode.Tie as tie
+use Rattle.wire.proofs.decode.Statement.{statement}
+use Rattle.wire.proofs.decode.Tie as tie
 
 -- from what the code finds of a word that it read to what the list asks of the bytes
 in-time : {n w : ℕ} {held t : Bool} → n ≡ w → held ≡ leb n lastMinute → held ≡ t → leb w lastMinute ≡ t
 in-time e h k = sym (ap (λ (x : ℕ). leb x lastMinute) e) ∙ sym h ∙ k
 
-finite-word : {n w : ℕ} {held t : Bool} → n ≡ w → held ≡ finiteBits n → held ≡ t → isFinite (ofBits binary32 w) ≡ t
-finite-word {n} {w} e h k = bits-test w ∙ sym (ap finiteBits e) ∙ sym h ∙ k
+finite-word : {n w : ℕ} {held t : Bool} → n ≡ w → held ≡ isFinite (ofBits binary32 n) → held ≡ t → isFinite (ofBits binary32 w) ≡ t
+finite-word e h k = sym (ap (λ (x : ℕ). isFinite (ofBits binary32 x)) e) ∙ sym h ∙ k
 
 -- what the code found is what was sent
 sent-is : (m : List ℕ) {t : ℕ} {x y : Float} {k : Message} → t ≡ minute m → x ≡ first m → y ≡ second m → k ≡ kind (channel m) x y →
@@ -150,8 +148,8 @@ returns-8 c =
     )
     (sent-is (now (c .before .before .before .before .before .before .before .before .before .before .before .before .before .before .before .before .before .before .before .before .args .bytes))
     (c .before .before .before .before .before .before .before .before .before .before .before .word .ensures)
-    (c .before .before .float-of .ensures .0 ∙ ap (ofBits binary32) (c .before .before .before .before .before .before .before .before .word2 .ensures))
-    (c .before .float-of2 .ensures .0 ∙ ap (ofBits binary32) (c .before .before .before .before .before .word3 .ensures))
+    (c .before .before .float-of .ensures ∙ ap (ofBits binary32) (c .before .before .before .before .before .before .before .before .word2 .ensures))
+    (c .before .float-of2 .ensures ∙ ap (ofBits binary32) (c .before .before .before .before .before .word3 .ensures))
     (c .kind-of .ensures))
 
 pub decode-spec : {M : Type 1} → statement M

@@ -1,7 +1,7 @@
 -- `kind_of` meets its contract: each test of the channel picks its kind. Assumes nothing.
 use borrow.Author.Tests.{eq-eqb, ne-eqb}
-use Rattle.message.proofs.kind_of.Statement.{statement}
-use Rattle.message.proofs.kind_of.Tie as tie
+use Rattle.wire.proofs.kind_of.Statement.{statement}
+use Rattle.wire.proofs.kind_of.Tie as tie
 
 returns : tie.Need-returns
 returns c = rw (eq-eqb _ _ (c .if1 .taken))

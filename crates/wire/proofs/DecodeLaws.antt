@@ -9,12 +9,12 @@ use lib.Ieee.{Float}
 use lib.Ieee.Fits.{and-l, and-r}
 use Rattle.number.specs.Refusal.{Answer, given, refused, answer}
 use Rattle.number.proofs.RefusalLaws.{given-then, given-is}
-use Rattle.message.specs.Bytes.{channel, minute, first, second}
-use Rattle.message.specs.Value.{isFinite, Finite}
-use Rattle.message.specs.Kinds.{kind, pair, Sound}
-use Rattle.message.specs.Decode.{wireTests, message, Sent, sent, decoded}
-use Rattle.message.specs.declared.Message.{Message}
-use Rattle.message.specs.declared.Message.the-variants.{Barometer, Wheelhouse, ApparentWind, ShipMotion, DryBulb, WetBulb}
+use Rattle.wire.specs.Bytes.{channel, minute, first, second}
+use Rattle.wire.specs.Finite.{isFinite, Finite}
+use Rattle.wire.specs.Kinds.{kind, pair, Sound}
+use Rattle.wire.specs.Decode.{wireTests, message, Sent, sent, decoded}
+use Rattle.wire.specs.declared.Message.{Message}
+use Rattle.wire.specs.declared.Message.the-variants.{Barometer, Wheelhouse, ApparentWind, ShipMotion, DryBulb, WetBulb}
 
 pick-sound : (b : Bool) (k l : Message) → Sound k → Sound l → Sound (cond b k l)
 pick-sound true k l s t = s

@@ -3,10 +3,10 @@ use mathlib.Core.Bool.{cond}
 use Prim.Native.Nat.{ℕ}
 use lib.Dec.{eqb}
 use lib.Ieee.{Float}
-use Rattle.message.specs.Value.{Finite}
-use Rattle.message.specs.declared.Pair.{Pair}
-use Rattle.message.specs.declared.Message.{Message}
-use Rattle.message.specs.declared.Message.the-variants.{Barometer, Wheelhouse, ApparentWind, ShipMotion, DryBulb, WetBulb}
+use Rattle.wire.specs.Finite.{Finite}
+use Rattle.wire.specs.declared.Pair.{Pair}
+use Rattle.wire.specs.declared.Message.{Message}
+use Rattle.wire.specs.declared.Message.the-variants.{Barometer, Wheelhouse, ApparentWind, ShipMotion, DryBulb, WetBulb}
 
 abbrev pub pair : Float → Float → Pair
 pair x y = record { speed = x; angle = y }

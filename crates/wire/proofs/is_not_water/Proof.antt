@@ -1,8 +1,8 @@
 -- `is_not_water` meets its contract. Assumes nothing.
 use borrow.Author.Tests.{eq-eqb, ne-eqb}
 use borrow.Author.Needs.{needs}
-use Rattle.message.proofs.is_not_water.Statement.{statement}
-use Rattle.message.proofs.is_not_water.Tie as tie
+use Rattle.wire.proofs.is_not_water.Statement.{statement}
+use Rattle.wire.proofs.is_not_water.Tie as tie
 
 shared-slice-read-if1 : tie.Need-shared-slice-read-if1
 shared-slice-read-if1 c = search needs

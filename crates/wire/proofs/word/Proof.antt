@@ -1,7 +1,7 @@
 -- `word` meets its contract: four bytes below 256 fit a u32. Assumes nothing.
 use borrow.Author.Needs.{needs}
-use Rattle.message.proofs.word.Statement.{statement}
-use Rattle.message.proofs.word.Tie as tie
+use Rattle.wire.proofs.word.Statement.{statement}
+use Rattle.wire.proofs.word.Tie as tie
 
 shared-slice-read-wide : tie.Need-shared-slice-read-wide
 shared-slice-read-wide c = search needs
