@@ -10,7 +10,7 @@ use borrow.Author.Tests.{not-false}
 use Rattle.number.specs.Refusal.{Numbered, numbered, Test, Answer, refused, given, answer}
 use Rattle.number.proofs.Sizes.{within-size}
 use Rattle.quantity.specs.Limits.{inside, pressureLimits, wheelhouse}
-use Rattle.store.specs.Block.{unitOf}
+use Rattle.block.specs.Words.{unitOf}
 use Rattle.store.specs.History.{isPresent}
 use Rattle.message.proofs.Keep.{pressure-size}
 use Rattle.pressure.specs.Pressure.{Barometer, barometerOf, outside, seaLevel, seaLevelAnswer, stationPressure, stationAnswer, pressureAs}

@@ -21,10 +21,11 @@ use Rattle.settings.specs.Settings.{checked}
 use Rattle.settings.specs.declared.Settings.{Settings}
 use Rattle.window.specs.Layout.{WINDOW}
 use Rattle.window.specs.Window.{takes, next}
-use Rattle.store.specs.Layout.{CHANNELS}
-use Rattle.store.specs.Block.{unitOf, windowOf, isLater, hearing, hearTests, entryOfBytes}
+use Rattle.cell.specs.Cells.{CHANNELS}
+use Rattle.block.specs.Words.{unitOf, windowOf}
+use Rattle.store.specs.Block.{isLater, hearing, hearTests, entryOfBytes}
 use Rattle.store.specs.History.{nextOf, history, store-of}
-use Rattle.store.proofs.BlockLaws.{window-long}
+use Rattle.block.proofs.BlockLaws.{window-long}
 use Rattle.store.proofs.HistoryLaws.{store-remembers}
 use Rattle.station.specs.Questions.{Answers}
 use Rattle.station.specs.Feeds.{wouldKeep, messageTests}
