@@ -1,28 +1,25 @@
 -- The settings are read back as the store was opened with them: each lies within its limits, so it fits 16 bits. Assumes nothing.
 use mathlib.Core.Path.{_≡_, refl, sym, ap, _∙_}
-use mathlib.Core.Bool.{Bool, true, false, not, _&&_, cond}
+use mathlib.Core.Bool.{Bool, true, _&&_}
 use mathlib.Core.List.{List}
-use Prim.Native.Nat.{ℕ, zero, suc, _+_, _-_, _*_, _/_, _%_, _≤_, _<_, min}
+use Prim.Native.Nat.{ℕ, _+_, _-_, _*_, _/_, _%_, _≤_, _<_, min}
 use native.Mathlib.Omega.{arith}
 use native.Mathlib.Nat.{zero-add}
-use lib.Dec.{T, eqb, ltb, leb, lit≤, lit<}
+use lib.Dec.{leb, lit≤, lit<}
 use lib.IntN.{ℤ, pos, negℤ, natAbs, _-ℤ_}
-use lib.ListN.{getD}
 use borrow.Author.Tests.{lt-ltb, ne-eqb, not-false}
 use Rattle.number.specs.Refusal.{given}
 use Rattle.settings.proofs.RefusalsInOrder.{settings-good}
 use Rattle.number.proofs.Sizes.{within-size, and-true}
 use Rattle.quantity.specs.Limits.{Limits, inside, pressureLimits}
-use Rattle.settings.specs.Settings.{height, difference, coefficient, psychrometer, correction, every, pointAt, pointHolds, certificateHolds, othersHold, tests, checked}
+use Rattle.settings.specs.Settings.{height, difference, coefficient, psychrometer, correction, pointAt, pointHolds, certificateHolds, othersHold, checked}
 use Rattle.settings.proofs.EveryLaws.{every-at}
 use Rattle.quantity.specs.declared.BarometerUnit.{BarometerUnit}
-use Rattle.quantity.specs.declared.BarometerUnit.the-variants.{Hectopascals, Millimetres}
 use Rattle.settings.specs.declared.Settings.{Settings}
 use Rattle.settings.specs.declared.Point.{Point}
 use Rattle.message.proofs.Keep.{pressure-size}
-use Rattle.block.specs.Layout.{POINTS, WORDS}
 use Rattle.cell.specs.Cells.{biased, unbiased}
-use Rattle.block.specs.Words.{unitWord, pointWord, openedWord, listed, opened, unitOf, settingOf, pointsOf, pointIn, pointOf}
+use Rattle.block.specs.Words.{pointWord, openedWord, opened, unitOf, settingOf, pointsOf, pointIn, pointOf}
 use Rattle.cell.proofs.CellLaws.{biased-lt, unbiased-back}
 use Rattle.block.proofs.OpenedLaws.{word-at, opened-unit, certificate, few}
 use Rattle.message.proofs.ReceivedLaws.{fails}

@@ -1,5 +1,5 @@
 -- Each public contract of this crate allows a single answer, and `lay` a single block to be left. Assumes nothing.
-use mathlib.Core.Path.{_≡_, refl, sym, ap, _∙_}
+use mathlib.Core.Path.{refl, sym, ap, _∙_}
 use Rattle.number.specs.Single.{Single, SingleLeft}
 use Rattle.number.specs.declared.Kept.{Kept}
 use Rattle.number.proofs.SingleAnswers.{kept-by}

@@ -23,7 +23,7 @@ unitWord Millimetres = 1
 abbrev pub pointWord : Point → ℕ
 pointWord p = biased (p .reading .v) + 65536 * biased (p .correction .0 .v)
 
--- The word at a place of a block that was just opened: the settings, the points of the certificate, and nothing heard.
+-- The word at a place of a block that was just opened: the settings, the points of the certificate (at most 16), and nothing heard.
 unfoldable pub openedWord : Settings → ℕ → ℕ
 openedWord s i =
     cond (eqb i 0) (unitWord (s .unit))

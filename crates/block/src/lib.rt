@@ -1,7 +1,7 @@
 // The lent block: the settings laid into it and read back, and behind them a window for each of six channels, side by side.
 ghost use mathlib.Core.Path.{_≡_};
 ghost use mathlib.Core.List.{[], _∷_};
-ghost use Prim.Native.Nat.{ℕ, _<_};
+ghost use Prim.Native.Nat.{_<_};
 ghost use Rattle.block.specs.Layout.{SETTINGS};
 ghost use Rattle.block.specs.Words.{unitWord, openedWord, opened, unitOf, settingOf, pointsOf, pointOf};
 use cell::CHANNELS;

@@ -4,7 +4,7 @@ use mathlib.Core.Path.{_≡_}
 use mathlib.Core.List.{List}
 use mathlib.Core.Logic.{_↔_}
 use Prim.Native.Nat.{ℕ}
-use Rattle.number.specs.Refusal.{Answer, refused, given, Holds, NoneBelow}
+use Rattle.number.specs.Refusal.{refused, given, Holds, NoneBelow}
 use Rattle.number.proofs.RefusalLaws.{in-number-order, given-exactly}
 use Rattle.quantity.specs.declared.BarometerUnit.{BarometerUnit}
 use Rattle.wire.specs.Bytes.{minute}

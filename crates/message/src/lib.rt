@@ -1,8 +1,8 @@
 // A message: 16 bytes in, a reading out, or the first refusal of 1 to 7 that holds.
 ghost use mathlib.Core.Path.{_≡_};
 ghost use mathlib.Core.Bool.{cond};
-ghost use Prim.Native.Nat.{ℕ, _+_, _*_, _-_, _^_, _≤_, _<_, min};
-ghost use lib.IntN.{ℤ, natAbs};
+ghost use Prim.Native.Nat.{_+_, _*_, _-_, _^_, _<_, min};
+ghost use lib.IntN.{natAbs};
 ghost use Rattle.number.specs.Refusal.{answer};
 ghost use Rattle.quantity.specs.Limits.{pressureLimits};
 ghost use Rattle.quantity.specs.Limits as limits;

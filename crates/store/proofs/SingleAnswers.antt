@@ -3,23 +3,16 @@ use mathlib.Core.Path.{_≡_, refl, sym, ap, _∙_}
 use mathlib.Core.Bool.{cond}
 use Prim.Native.Nat.{ℕ}
 use lib.Dec.{eqb}
-use lib.IntN.{ℤ}
 use Rattle.number.specs.Single.{Single, SingleLeft}
 use Rattle.number.specs.Refusal.{Answer, refused, given}
-use Rattle.number.specs.declared.Kept.{Kept}
-use Rattle.number.proofs.SingleAnswers.{kept-by}
-use Rattle.message.specs.Receive.{Entry, entryOf}
-use Rattle.wire.proofs.SingleAnswers.{refusal, refusal-back}
+use Rattle.wire.proofs.SingleAnswers.{refusal}
 use Rattle.wire.specs.declared.MessageRefusal.{MessageRefusal}
 use Rattle.wire.specs.declared.MessageRefusal.the-variants.{NotSixteenBytes, NoSuchChannel, ByteNotZero, WetBulbNotWater, MinuteTooLate, NotFinite, OutsideLimits}
 use Rattle.settings.proofs.SingleAnswers.{case-of, case-back}
 use Rattle.cell.proofs.SingleAnswers.{recall-of, recall-back}
-use Rattle.cell.specs.Cells.{Recall, absent, recalled, recalledAs}
 use Rattle.store.specs.Block.{heardAs}
 use Rattle.store.specs.declared.Hearing.{Hearing}
 use Rattle.store.specs.declared.Hearing.the-variants.{Heard, Refused, NotLater}
-use Rattle.cell.specs.declared.Recalled.{Recalled}
-use Rattle.cell.specs.declared.Recalled.the-variants as kept
 use Rattle.store.proofs.«open».Reads as opening
 use Rattle.store.proofs.hear.Reads as hear
 use Rattle.store.proofs.recall.Reads as recall

@@ -1,9 +1,9 @@
 -- Whether a binary32 is finite shows in the exponent's field of its pattern: the field is not all ones. Assumes nothing.
-use mathlib.Core.Path.{_≡_, refl, sym, ap, _∙_, subst}
+use mathlib.Core.Path.{_≡_, refl, subst}
 use mathlib.Core.Bool.{Bool, true, false, not, _&&_, cond}
 use Prim.Native.Nat.{ℕ, zero, suc, _+_, _/_, _%_, _^_}
 use lib.Dec.{T, leb, eqb}
-use lib.Ieee.{Float, nan, inf, fin, binary32, odd, ofFields, ofBits, nanBits}
+use lib.Ieee.{Float, nan, inf, binary32, odd, ofFields, ofBits, nanBits}
 use Rattle.wire.specs.Finite.{isFinite, Finite}
 
 T-true : (b : Bool) → T b → b ≡ true

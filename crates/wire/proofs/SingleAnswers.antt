@@ -6,7 +6,6 @@ use Prim.Native.Nat.{ℕ}
 use lib.Dec.{eqb}
 use Rattle.number.specs.Single.{Single}
 use Rattle.number.specs.Refusal.{Answer, refused, given}
-use Rattle.quantity.specs.declared.Minute.{Minute}
 use Rattle.wire.specs.Decode.{Sent, numberOf, decodedAs}
 use Rattle.wire.specs.declared.MessageRefusal.{MessageRefusal}
 use Rattle.wire.specs.declared.MessageRefusal.the-variants.{NotSixteenBytes, NoSuchChannel, ByteNotZero, WetBulbNotWater, MinuteTooLate, NotFinite, OutsideLimits}

@@ -1,8 +1,8 @@
 // A message as it comes: 16 bytes in, one of six kinds and its minute out, or the first refusal of 1 to 6 that holds.
 ghost use mathlib.Core.Path.{_≡_};
-ghost use Prim.Native.Nat.{ℕ, _+_, _≤_, _<_};
+ghost use Prim.Native.Nat.{_+_, _≤_, _<_};
 ghost use lib.ListN.{length};
-ghost use lib.Ieee.{Float, binary32, ofBits};
+ghost use lib.Ieee.{binary32, ofBits};
 ghost use Rattle.wire.specs.Bytes.{word, stray, notWater};
 ghost use Rattle.wire.specs.Finite.{isFinite, Finite};
 ghost use Rattle.wire.specs.Kinds.{kind};

@@ -12,9 +12,6 @@ use Rattle.cell.specs.Cells.{absent, cellSays}
 use borrow.Author.Needs.{needs}
 use Rattle.cell.proofs.pair_in.Statement.{statement}
 use Rattle.cell.proofs.pair_in.Tie as tie
-use Rattle.quantity.proofs.Degrees.holds.Reads as Degrees-holds-reads
-use Rattle.quantity.proofs.Knots.holds.Reads as Knots-holds-reads
-use Rattle.quantity.proofs.MetresPerSecond.holds.Reads as MetresPerSecond-holds-reads
 
 neither : (b : Bool) → (b && false) ≡ false
 neither true = refl

@@ -1,5 +1,5 @@
 -- `open` meets its contract: what the check of the settings says decides. Assumes nothing.
-use mathlib.Core.Path.{_≡_, sym, ap, _∙_}
+use mathlib.Core.Path.{sym, ap, _∙_}
 use denote.Ref.{now}
 use Rattle.settings.specs.Settings.{checkedAs}
 use Rattle.store.proofs.OpenLaws.{opens, opens-not}

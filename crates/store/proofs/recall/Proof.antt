@@ -1,14 +1,13 @@
 -- `recall` meets its contract: what the window keeps, read by the channel. Assumes nothing.
-use mathlib.Core.Path.{_≡_, sym, ap, _∙_}
+use mathlib.Core.Path.{sym, ap, _∙_}
 use mathlib.Core.List.{List}
 use Prim.Native.Nat.{ℕ}
 use denote.Ref.{now}
 use borrow.Author.Tests.{lt-ltb, le-ltb}
 use Rattle.quantity.specs.declared.BarometerUnit.{BarometerUnit}
 use Rattle.window.specs.Window.{kept}
-use Rattle.window.specs.declared.Found.{Found}
 use Rattle.window.specs.declared.Found.the-variants.{Cell}
-use Rattle.block.specs.Words.{unitOf, windowOf}
+use Rattle.block.specs.Words.{unitOf}
 use Rattle.store.specs.Block.{recallIn, recallOf}
 use borrow.Author.Needs.{needs}
 use Rattle.store.proofs.recall.Statement.{statement}
