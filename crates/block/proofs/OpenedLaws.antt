@@ -20,7 +20,7 @@ use Rattle.window.specs.Window.{next}
 use Rattle.cell.specs.Cells.{CHANNELS}
 use Rattle.block.specs.Layout.{POINTS, SETTINGS, WORDS, base}
 use Rattle.block.specs.Words.{unitWord, openedWord, opened, unitOf, windowOf}
-use Rattle.message.proofs.ReceivedLaws.{fails}
+use Rattle.cell.proofs.ReceivedLaws.{fails}
 use Rattle.block.proofs.ListedLaws.{length-listed, getD-listed}
 
 unit-back : (u : BarometerUnit) → cond (eqb (unitWord u) 0) Hectopascals Millimetres ≡ u

@@ -22,7 +22,7 @@ use Rattle.cell.specs.Cells.{biased, unbiased}
 use Rattle.block.specs.Words.{pointWord, openedWord, opened, unitOf, settingOf, pointsOf, pointIn, pointOf}
 use Rattle.cell.proofs.CellLaws.{biased-lt, unbiased-back}
 use Rattle.block.proofs.OpenedLaws.{word-at, opened-unit, certificate, few}
-use Rattle.message.proofs.ReceivedLaws.{fails}
+use Rattle.cell.proofs.ReceivedLaws.{fails}
 
 plain : (z : ℤ) → natAbs z < 32768 → unbiased (biased z) ≡ z
 plain z h = let b = biased-lt z h in let e : biased z ≡ biased z % 65536 + 65536 * 0 = omega arith in ap unbiased e ∙ unbiased-back z 0 h

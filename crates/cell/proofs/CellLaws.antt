@@ -22,7 +22,7 @@ use Rattle.wire.specs.declared.Message.{Message}
 use Rattle.wire.specs.declared.Message.the-variants.{Barometer, Wheelhouse, ApparentWind, ShipMotion, DryBulb, WetBulb}
 use Rattle.cell.specs.Cells.{CHANNELS}
 use Rattle.cell.specs.Cells.{biased, unbiased, cellOf, entryIn, soundIn}
-use Rattle.message.proofs.ReceivedLaws.{received-is, received-inside}
+use Rattle.cell.proofs.ReceivedLaws.{received-is, received-inside}
 
 -- ---- the halves
 

@@ -1,2 +1,3 @@
+pub mod ReceivedLaws
 pub mod CellLaws
 pub mod SingleAnswers

@@ -9,7 +9,8 @@ use Rattle.number.specs.Round.{nearest}
 unfoldable pub toWhole : ℕ → ℕ → ℕ
 toWhole num den = nearest num den
 
--- n times a value, rounded. A finite value is plus or minus m * 2 ^ e, written as the fraction m * up e / down e. (A value that is not finite is refused before, and stands here as 0.)
+-- n times a value, rounded. A finite value is plus or minus m * 2 ^ e, written as the fraction m * up e / down e. (A value
+-- that is not finite is refused before, and stands here as 0.)
 abbrev pub timesRounded : ℕ → Float → ℤ
 timesRounded n nan = pos 0
 timesRounded n (inf minus) = pos 0

@@ -24,7 +24,7 @@ use Rattle.block.specs.Words.{unitOf, windowOf}
 use Rattle.store.specs.Block.{hearing, heardBy, absentOf}
 use Rattle.cell.specs.Cells.{absent}
 use Rattle.store.specs.History.{nextOf, grown, history, belongs, of-channel, lookup, remembered, isPresent, Remembers}
-use Rattle.message.proofs.ReceivedLaws.{received-long, received-channel}
+use Rattle.cell.proofs.ReceivedLaws.{received-long, received-channel}
 use Rattle.cell.proofs.CellLaws.{received-back}
 use Rattle.block.proofs.BlockLaws.{window-long, beside, settings-stay}
 use Rattle.store.proofs.HearingLaws.{hearing-was, heard-refused, heard-given}
