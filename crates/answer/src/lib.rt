@@ -4,7 +4,7 @@ ghost use mathlib.Core.Path.{_≡_};
 ghost use mathlib.Core.List.{[], _∷_, _++_};
 ghost use Prim.Native.Nat.{_<_, _≤_};
 ghost use lib.ListN.{length};
-ghost use Rattle.message.specs.Decode.{numberOf};
+ghost use Rattle.wire.specs.Decode.{numberOf};
 ghost use Rattle.station.specs.Told.{refusalOf};
 ghost use Rattle.station.specs.declared.PressureAnswer.the-variants as pressure;
 ghost use Rattle.station.specs.declared.TendencyAnswer.the-variants as tendency;
@@ -15,7 +15,6 @@ ghost use Rattle.text.specs.Text.{field, end, Put};
 ghost use Rattle.answer.specs.Hex.{digit16, hexOf, hex};
 ghost use Rattle.answer.specs.Answer.{fields, refusedLine, openingLine, hearingLine, pressureLine, tendencyLine, windLine, humidityFields, humidityLine, fileLine, writtenLine};
 use humidity::HumidityFigures;
-use message::MessageRefusal;
 use quantity::Degrees;
 use quantity::Hectopascals;
 use quantity::MetresPerSecond;
@@ -26,6 +25,7 @@ use station::QuestionRefusal;
 use station::TendencyAnswer;
 use station::WindAnswer;
 use store::Hearing;
+use wire::MessageRefusal;
 use writer::Written;
 
 // Puts bytes as they are, and the end of the line.

@@ -3,6 +3,7 @@
 ghost use mathlib.Core.Path.{_≡_};
 ghost use Prim.Native.Nat.{min};
 use answer::put_line;
+use block::Store;
 use command::Command;
 use command::Fault;
 use command::LineRead;
@@ -12,7 +13,6 @@ use command::Unhexed;
 use libc::STDIN_FILENO;
 use libc::STDOUT_FILENO;
 use listing::Listed;
-use message::MessageRefusal;
 use reader::Verdict;
 use settings::Checked;
 use station::HumidityAnswer;
@@ -20,10 +20,10 @@ use station::PressureAnswer;
 use station::TendencyAnswer;
 use station::WindAnswer;
 use store::Hearing;
-use store::Store;
 use watchfile::Body;
 use watchfile::RECORDS;
 use watchfile::Record;
+use wire::MessageRefusal;
 use writer::Written;
 
 // The longest line, without its end.
@@ -835,7 +835,7 @@ fn take_all(
 }
 
 fn main() {
-    let mut store = [0u64; store::WORDS];
+    let mut store = [0u64; block::WORDS];
     let mut line = [0u8; LINE];
     let mut file = [0u8; FILE];
     let mut bytes = [0u8; BYTES];

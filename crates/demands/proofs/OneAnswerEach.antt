@@ -30,8 +30,9 @@ use Rattle.quantity.proofs.Millimetres.hectopascals.Reads as quantity-Millimetr
 use Rattle.quantity.proofs.MetresPerSecond.parts.Reads as quantity-MetresPerSecond-parts
 use Rattle.quantity.proofs.Knots.parts.Reads as quantity-Knots-parts
 use Rattle.quantity.proofs.Degrees.keep.Reads as quantity-Degrees-keep
+use Rattle.wire.proofs.SingleAnswers as wire
+use Rattle.wire.proofs.decode.Reads as wire-decode
 use Rattle.message.proofs.SingleAnswers as message
-use Rattle.message.proofs.decode.Reads as message-decode
 use Rattle.message.proofs.receive.Reads as message-receive
 use Rattle.settings.proofs.SingleAnswers as settings
 use Rattle.settings.proofs.Height.holds.Reads as settings-Height-holds
@@ -44,16 +45,24 @@ use Rattle.window.proofs.SingleAnswers as window
 use Rattle.window.proofs.accept.Reads as window-accept
 use Rattle.window.proofs.find.Reads as window-find
 use Rattle.window.proofs.missed.Reads as window-missed
+use Rattle.cell.proofs.SingleAnswers as cell
+use Rattle.cell.proofs.biased.Reads as cell-biased
+use Rattle.cell.proofs.unbiased.Reads as cell-unbiased
+use Rattle.cell.proofs.cell_of.Reads as cell-cell-of
+use Rattle.cell.proofs.reading_in.Reads as cell-reading-in
+use Rattle.block.proofs.SingleAnswers as block
+use Rattle.block.proofs.lay.Reads as block-lay
+use Rattle.block.proofs.unit_in.Reads as block-unit-in
+use Rattle.block.proofs.unit.Reads as block-unit
+use Rattle.block.proofs.height.Reads as block-height
+use Rattle.block.proofs.difference.Reads as block-difference
+use Rattle.block.proofs.coefficient.Reads as block-coefficient
+use Rattle.block.proofs.psychrometer.Reads as block-psychrometer
+use Rattle.block.proofs.points.Reads as block-points
+use Rattle.block.proofs.point.Reads as block-point
 use Rattle.store.proofs.SingleAnswers as store
 use Rattle.store.proofs.«open».Reads as store-open
 use Rattle.store.proofs.hear.Reads as store-hear
-use Rattle.store.proofs.unit.Reads as store-unit
-use Rattle.store.proofs.height.Reads as store-height
-use Rattle.store.proofs.difference.Reads as store-difference
-use Rattle.store.proofs.coefficient.Reads as store-coefficient
-use Rattle.store.proofs.psychrometer.Reads as store-psychrometer
-use Rattle.store.proofs.points.Reads as store-points
-use Rattle.store.proofs.point.Reads as store-point
 use Rattle.store.proofs.recall.Reads as store-recall
 use Rattle.store.proofs.missing_minutes.Reads as store-missing-minutes
 use Rattle.pressure.proofs.SingleAnswers as pressure
@@ -166,8 +175,9 @@ pub record OneAnswerEach : Type 0 where
   pub quantity-MetresPerSecond-parts-single : Single quantity-MetresPerSecond-parts.Post
   pub quantity-Knots-parts-single : Single quantity-Knots-parts.Post
   pub quantity-Degrees-keep-single : Single quantity-Degrees-keep.Post
+  -- wire
+  pub wire-decode-single : Single wire-decode.Post
   -- message
-  pub message-decode-single : Single message-decode.Post
   pub message-receive-single : Single message-receive.Post
   -- settings
   pub settings-Height-holds-single : Single settings-Height-holds.Post
@@ -181,18 +191,27 @@ pub record OneAnswerEach : Type 0 where
   pub window-accept-left : SingleLeft window-accept.Post (λ κs s. s .0 .now)
   pub window-find-single : Single window-find.Post
   pub window-missed-single : Single window-missed.Post
+  -- cell
+  pub cell-biased-single : Single cell-biased.Post
+  pub cell-unbiased-single : Single cell-unbiased.Post
+  pub cell-cell-of-single : Single cell-cell-of.Post
+  pub cell-reading-in-single : Single cell-reading-in.Post
+  -- block
+  pub block-lay-single : Single block-lay.Post
+  pub block-lay-left : SingleLeft block-lay.Post (λ κs s. s .0 .now)
+  pub block-unit-in-single : Single block-unit-in.Post
+  pub block-unit-single : Single block-unit.Post
+  pub block-height-single : Single block-height.Post
+  pub block-difference-single : Single block-difference.Post
+  pub block-coefficient-single : Single block-coefficient.Post
+  pub block-psychrometer-single : Single block-psychrometer.Post
+  pub block-points-single : Single block-points.Post
+  pub block-point-single : Single block-point.Post
   -- store
   pub store-open-single : Single store-open.Post
   pub store-open-left : SingleLeft store-open.Post (λ κs s. s .0 .now)
   pub store-hear-single : Single store-hear.Post
   pub store-hear-left : SingleLeft store-hear.Post (λ κs s. s .0 .now)
-  pub store-unit-single : Single store-unit.Post
-  pub store-height-single : Single store-height.Post
-  pub store-difference-single : Single store-difference.Post
-  pub store-coefficient-single : Single store-coefficient.Post
-  pub store-psychrometer-single : Single store-psychrometer.Post
-  pub store-points-single : Single store-points.Post
-  pub store-point-single : Single store-point.Post
   pub store-recall-single : Single store-recall.Post
   pub store-missing-minutes-single : Single store-missing-minutes.Post
   -- pressure
@@ -328,7 +347,7 @@ one-answer-each =
       quantity-MetresPerSecond-parts-single = quantity.single-metres-parts;
       quantity-Knots-parts-single = quantity.single-knots-parts;
       quantity-Degrees-keep-single = quantity.single-degrees-keep;
-      message-decode-single = message.single-decode;
+      wire-decode-single = wire.single-decode;
       message-receive-single = message.single-receive;
       settings-Height-holds-single = settings.single-height;
       settings-SeaLevelDifference-holds-single = settings.single-difference;
@@ -340,17 +359,24 @@ one-answer-each =
       window-accept-left = window.single-accept-words;
       window-find-single = window.single-find;
       window-missed-single = window.single-missed;
+      cell-biased-single = cell.single-biased;
+      cell-unbiased-single = cell.single-unbiased;
+      cell-cell-of-single = cell.single-cell-of;
+      cell-reading-in-single = cell.single-reading-in;
+      block-lay-single = block.single-lay;
+      block-lay-left = block.single-lay-left;
+      block-unit-in-single = block.single-unit-in;
+      block-unit-single = block.single-unit;
+      block-height-single = block.single-height;
+      block-difference-single = block.single-difference;
+      block-coefficient-single = block.single-coefficient;
+      block-psychrometer-single = block.single-psychrometer;
+      block-points-single = block.single-points;
+      block-point-single = block.single-point;
       store-open-single = store.single-open;
       store-open-left = store.single-open-left;
       store-hear-single = store.single-hear;
       store-hear-left = store.single-hear-left;
-      store-unit-single = store.single-unit;
-      store-height-single = store.single-height;
-      store-difference-single = store.single-difference;
-      store-coefficient-single = store.single-coefficient;
-      store-psychrometer-single = store.single-psychrometer;
-      store-points-single = store.single-points;
-      store-point-single = store.single-point;
       store-recall-single = store.single-recall;
       store-missing-minutes-single = store.single-missing-minutes;
       pressure-scale-correction-single = pressure.single-scale-correction;

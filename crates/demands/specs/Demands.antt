@@ -12,7 +12,8 @@ use Rattle.quantity.specs.declared.Degrees.{Degrees}
 use Rattle.settings.specs.Settings.{checked}
 use Rattle.settings.specs.Settings as settings
 use Rattle.settings.specs.declared.Settings.{Settings}
-use Rattle.store.specs.Block.{absent, openedBy, hearing, heardBy}
+use Rattle.cell.specs.Cells.{absent}
+use Rattle.store.specs.Block.{openedBy, hearing, heardBy}
 use Rattle.store.specs.History.{nextOf, history, store-of}
 use Rattle.vapour.specs.Vapour.{IsTable}
 use Rattle.humidity.specs.declared.HumidityFigures.{HumidityFigures}

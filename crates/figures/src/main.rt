@@ -1,5 +1,6 @@
 // Works the figures of document 01 ("Figures on both sides") in the compiled program: those that are proved, in the order of their
 // table, then those that are only run. Pressures in tenths of hPa, and so on, as in the table.
+use block::Store;
 use humidity::Moisture;
 use libc::STDOUT_FILENO;
 use number::Kept;
@@ -21,7 +22,6 @@ use settings::Settings;
 use settings::TemperatureCoefficient;
 use station::QuestionRefusal;
 use station::TendencyAnswer;
-use store::Store;
 use wind::TrueWind;
 
 fn say(text: &[u8]) {
@@ -65,7 +65,7 @@ fn settings(difference: i32) -> Settings {
 
 // Reading 741.9 mm Hg at 12.4 °C.
 fn pressure_at_sea_level(difference: i32) {
-    let mut store = [0u64; store::WORDS];
+    let mut store = [0u64; block::WORDS];
     store::open(&mut store, settings(difference));
     match pressure::sea_level_pressure(
         &store,
@@ -168,7 +168,7 @@ fn tendency_at(store: &Store, minute: u32) {
 
 // Barometer and thermometer at 100 and 280 only, then both at 400.
 fn watch_with_a_gap() {
-    let mut store = [0u64; store::WORDS];
+    let mut store = [0u64; block::WORDS];
     let first = point(8500, 0);
     let mut points = [first; 16];
     points[1] = point(11000, 0);

@@ -19,12 +19,14 @@ use Rattle.settings.specs.Settings.{checked}
 use Rattle.settings.specs.declared.Settings.{Settings}
 use Rattle.window.specs.Layout.{WINDOW}
 use Rattle.window.specs.Window.{next, takes, absents}
-use Rattle.store.specs.Layout.{CHANNELS}
-use Rattle.store.specs.Block.{opened, openedBy, windowOf, isGiven, isLater, heardAs, outcome, Hears, Recall, recallOf, absentOf}
+use Rattle.cell.specs.Cells.{CHANNELS}
+use Rattle.block.specs.Words.{opened, windowOf}
+use Rattle.store.specs.Block.{openedBy, isGiven, isLater, heardAs, outcome, Hears, recallOf, absentOf}
+use Rattle.cell.specs.Cells.{Recall}
 use Rattle.store.specs.History.{nextOf, history, remembered, isPresent, Remembers}
 use Rattle.store.specs.declared.Hearing.{Hearing}
-use Rattle.store.proofs.BlockLaws.{window-long}
-use Rattle.store.proofs.CellLaws.{received-back}
+use Rattle.block.proofs.BlockLaws.{window-long}
+use Rattle.cell.proofs.CellLaws.{received-back}
 use Rattle.store.proofs.HearingLaws.{hearing-given}
 use Rattle.store.proofs.OpenLaws.{opens}
 use Rattle.store.proofs.HistoryLaws.{opened-remembers, heard-remembers}

@@ -5,7 +5,7 @@ use Prim.Native.Nat.{ℕ, _/_, _%_}
 use lib.Dec.{eqb}
 use lib.IntN.{natAbs}
 use Rattle.message.specs.Receive.{Figure, hPa, mmHg, °C, m/s, kn, deg, none}
-use Rattle.store.specs.Block.{Recall, absent, recalled}
+use Rattle.cell.specs.Cells.{Recall, absent, recalled}
 
 -- Four bytes of a number; the message of a channel at a minute with the pattern of one value.
 abbrev pub four : ℕ → List ℕ

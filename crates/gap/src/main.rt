@@ -6,9 +6,12 @@ ghost use Prim.Native.Nat.{ℕ};
 ghost use Rattle.number.specs.Refusal.{given};
 ghost use Rattle.quantity.specs.declared.BarometerUnit.the-variants.{Hectopascals};
 ghost use Rattle.settings.specs.Settings.{checked, checkedAs};
-ghost use Rattle.store.specs.Block.{isGiven, heardAs, recallOf, recalledAs};
+ghost use Rattle.store.specs.Block.{isGiven, heardAs, recallOf};
+ghost use Rattle.cell.specs.Cells.{recalledAs};
 ghost use Rattle.store.specs.History.{isPresent, Remembers};
 ghost use Rattle.gap.specs.Watch.{to-100, to-280, to-400, pressureIn, temperatureIn};
+use block::Store;
+use cell::Recalled;
 use message::Reading;
 use number::Kept;
 use quantity::BarometerUnit;
@@ -21,8 +24,6 @@ use settings::SeaLevelDifference;
 use settings::Settings;
 use settings::TemperatureCoefficient;
 use store::Hearing;
-use store::Recalled;
-use store::Store;
 
 // Whether the settings were good.
 fn is_good(c: Checked) -> bool
@@ -215,7 +216,7 @@ fn ask_at_400(store: &Store)
 
 // "Barometer and thermometer at 100 and 280 only: tendency at 280, 179 absent. Then both at 400: minute 220 is absent."
 fn main() {
-    let mut store = [0u64; store::WORDS];
+    let mut store = [0u64; block::WORDS];
     open(&mut store);
     hear_at_100(&mut store);
     hear_at_280(&mut store);

@@ -1,11 +1,11 @@
 // Reads messages from standard input, 16 bytes each, and writes a line for each: channel, minute and values in tenths or whole
 // degrees, or the refusal. The unit of the barometer is the first argument, hPa or mmHg.
 use libc::STDOUT_FILENO;
-use message::MessageRefusal;
 use message::Reading;
 use message::Received;
 use number::Number;
 use quantity::BarometerUnit;
+use wire::MessageRefusal;
 
 // The unit that the first argument names.
 enum Named {

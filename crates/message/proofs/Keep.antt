@@ -6,17 +6,24 @@ use Prim.Native.Nat.{ℕ, _*_, _-_, _≤_, _<_, min}
 use mathlib.Core.Logic.{_⊎_, inl, inr, ⊎-elim}
 use native.Mathlib.Decide.{decLe}
 use native.Mathlib.Omega.{arith}
-use lib.Dec.{lit<}
+use lib.Dec.{lit≤, lit<}
 use lib.IntN.{ℤ, pos, natAbs}
 use lib.Ieee.{Float, nan, inf, fin, up, down}
 use Rattle.number.specs.Refusal.{Answer, refused, given, answer}
 use Rattle.number.specs.Whole.{signed, within}
-use Rattle.number.proofs.Sizes.{size-signed, without}
-use Rattle.quantity.specs.Limits.{Limits, inside}
+use Rattle.number.proofs.Sizes.{size-signed, within-size, without}
+use Rattle.quantity.specs.Limits.{Limits, inside, pressureLimits}
 use Rattle.quantity.specs.Limits as limits
+use Rattle.quantity.specs.declared.BarometerUnit.{BarometerUnit}
+use Rattle.quantity.specs.declared.BarometerUnit.the-variants.{Hectopascals, Millimetres}
 use Rattle.message.specs.Value.{toWhole, timesRounded}
 use Rattle.message.specs.Receive.{Figure, none, deg, Entry, compass}
 use Rattle.message.specs.Work.{most, capped, oneFigure, twoFigures}
+
+-- a barometer's reading is small, whatever its unit
+pub pressure-size : (u : BarometerUnit) (z : ℤ) → inside (pressureLimits u) z ≡ true → natAbs z < 32768
+pressure-size Hectopascals z i = omega (arith, within-size (pos 8500) (pos 11000) z 11000 (lit≤ tt) (lit≤ tt) i)
+pressure-size Millimetres z i = omega (arith, within-size (pos 6400) (pos 8250) z 8250 (lit≤ tt) (lit≤ tt) i)
 
 -- limits that are small against `most`
 abbrev pub Small : Limits → Type 0

@@ -2,7 +2,6 @@ pub mod Rule
 pub mod Pattern
 pub mod Ten
 pub mod Keep
-pub mod DecodeLaws
 pub mod Worked
 pub mod SingleAnswers
 pub mod RefusalsInOrder

@@ -1,22 +1,19 @@
--- What a float's bit pattern says of its value, and which patterns are finite. Assumes nothing.
+-- What a float's bit pattern says of its value. Assumes nothing.
 use mathlib.Core.Path.{_≡_, refl, sym, ap, _∙_, subst}
-use mathlib.Core.Bool.{Bool, true, false, not, _&&_, cond}
+use mathlib.Core.Bool.{Bool, true, false, not, cond}
 use Prim.Native.Nat.{ℕ, zero, suc, _+_, _-_, _*_, _/_, _%_, _^_, _≤_, _<_, min}
 use native.Mathlib.Nat.{lt-of-lt-of-le, mul-assoc, mul-le-mul, le-add-right, one-mul}
 use native.Mathlib.Omega.{arith}
 use lib.Dec.{T, leb, eqb}
 use lib.Pow.{pow-add, pow-pos, pow-mono, shl-lt}
-use lib.Ieee.{Float, nan, inf, fin, binary32, binary64, up, down, odd, ofFields, ofBits, nanBits, isNan}
+use lib.Ieee.{Float, nan, inf, fin, binary64, up, down, odd, ofFields, ofBits, isNan}
 use lib.Ieee.Fits.{down-pos}
 use lib.Ieee.Exact.{HasValue, odd-sign}
 use Rattle.number.specs.Whole.{signed}
-use Rattle.message.specs.Value.{toWhole, isFinite, Finite}
-use Rattle.message.specs.Work.{finiteBits, digits, most, capped}
+use Rattle.message.specs.Value.{toWhole}
+use Rattle.wire.specs.Finite.{Finite}
+use Rattle.message.specs.Work.{digits, most, capped}
 use Rattle.message.proofs.Rule as Rule
-
-T-true : (b : Bool) → T b → b ≡ true
-T-true true t = refl
-T-true false t = absurd t
 
 -- ---- a finite value by the fraction that it equals
 
@@ -29,11 +26,6 @@ value-whole (fin t m e) s a c C v =
     ∙ ap (λ (n : ℕ). signed s (min n most)) (Rule.same (m * up e) (down e) a c (down-pos e) C (v .1))
 
 -- ---- the fields
-
-odd-finite : (d : ℕ) (s : Bool) (q k l : ℕ) → Finite (odd d s q k l)
-unfolding odd
-odd-finite d s zero k l = tt
-odd-finite d s (suc q) k l = tt
 
 pick-value : (b c s : Bool) (v : Float) (a l : ℕ) → Finite (cond b (cond c (inf s) nan) v) → HasValue v s a l → HasValue (cond b (cond c (inf s) nan) v) s a l
 pick-value true true s v a l h k = absurd h
@@ -54,29 +46,6 @@ fields-value s (suc x) t h =
 pub bits-value : (b : ℕ) → Finite (ofBits binary64 b) → HasValue (ofBits binary64 b) (leb (2 ^ 63) b) (digits (b % 2 ^ 63 / 2 ^ 52) (b % 2 ^ 52) * 2 ^ (b % 2 ^ 63 / 2 ^ 52 - 1)) (2 ^ 1074)
 unfolding ofBits
 bits-value b h = fields-value (leb (2 ^ 63) b) (b % 2 ^ 63 / 2 ^ 52) (b % 2 ^ 52) h
-
-pick-test : (b c s : Bool) (v : Float) → Finite v → isFinite (cond b (cond c (inf s) nan) v) ≡ not b
-pick-test true true s v f = refl
-pick-test true false s v f = refl
-pick-test false c s v f = T-true (isFinite v) f
-
-fields-test : (s : Bool) (x t : ℕ) → isFinite (ofFields binary32 s x t) ≡ not (eqb x 255)
-unfolding ofFields
-fields-test s zero t = T-true (isFinite (odd 24 s t 0 149)) (odd-finite 24 s t 0 149)
-fields-test s (suc x) t = pick-test (eqb (suc x) 255) (eqb t 0) s (odd 24 s (2 ^ 23 + t) x 149) (odd-finite 24 s (2 ^ 23 + t) x 149)
-
--- whether a binary32 is finite shows in its exponent's field
-pub bits-test : (b : ℕ) → isFinite (ofBits binary32 b) ≡ finiteBits b
-unfolding ofBits
-bits-test b = fields-test (leb (2 ^ 31) b) (b % 2 ^ 31 / 2 ^ 23) (b % 2 ^ 23)
-
-pub bits-no-nan : (b : ℕ) → T (finiteBits b) → T (not (nanBits binary32 b))
-unfolding nanBits
-bits-no-nan b h = go (eqb (b % 2 ^ 31 / 2 ^ 23) 255) (not (eqb (b % 2 ^ 23) 0)) h
-  where
-    go : (x y : Bool) → T (not x) → T (not (x && y))
-    go true y n = absurd n
-    go false y n = tt
 
 pub finite-no-nan : (x : Float) → Finite x → T (not (isNan x))
 unfolding isNan

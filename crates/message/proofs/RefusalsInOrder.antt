@@ -4,11 +4,11 @@ use mathlib.Core.Path.{_≡_}
 use mathlib.Core.List.{List}
 use mathlib.Core.Logic.{_↔_}
 use Prim.Native.Nat.{ℕ}
-use Rattle.number.specs.Refusal.{Answer, refused, given, Holds, NoneBelow}
+use Rattle.number.specs.Refusal.{refused, given, Holds, NoneBelow}
 use Rattle.number.proofs.RefusalLaws.{in-number-order, given-exactly}
 use Rattle.quantity.specs.declared.BarometerUnit.{BarometerUnit}
-use Rattle.message.specs.Bytes.{minute}
-use Rattle.message.specs.Decode.{wireTests, message, sent, decoded}
+use Rattle.wire.specs.Bytes.{minute}
+use Rattle.wire.specs.Decode.{message}
 use Rattle.message.specs.Receive.{tests, entry, received}
 
 pub message-refused : (u : BarometerUnit) (m : List ℕ) (n : ℕ) → (received u m ≡ refused n) ↔ (Holds (tests u m) n × NoneBelow (tests u m) n)
@@ -18,7 +18,3 @@ message-refused u m n = in-number-order (entry u (minute m) (message m)) (tests 
 pub message-kept : (u : BarometerUnit) (m : List ℕ) → (received u m ≡ given (entry u (minute m) (message m))) ↔ ((n : ℕ) → Holds (tests u m) n → ⊥)
 unfolding received
 message-kept u m = given-exactly (entry u (minute m) (message m)) (tests u m)
-
-pub decode-refused : (m : List ℕ) (n : ℕ) → (decoded m ≡ refused n) ↔ (Holds (wireTests m) n × NoneBelow (wireTests m) n)
-unfolding decoded
-decode-refused m n = in-number-order (sent m) (wireTests m) tt n

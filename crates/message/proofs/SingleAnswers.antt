@@ -1,5 +1,5 @@
--- The public contracts of this crate allow a single answer: document 01's number and values tell every case apart, since from
--- them the case can be made again. Assumes nothing.
+-- The contract of `receive` allows a single answer: document 01's number and values tell every case apart, since from them the
+-- case can be made again. Assumes nothing.
 use mathlib.Core.Path.{_≡_, refl, sym, ap, _∙_}
 use mathlib.Core.Bool.{cond}
 use Prim.Native.Nat.{ℕ}
@@ -10,54 +10,13 @@ use Rattle.number.specs.Refusal.{Answer, refused, given}
 use Rattle.number.specs.declared.Number.{Number}
 use Rattle.number.specs.declared.Kept.{Kept}
 use Rattle.quantity.specs.declared.Minute.{Minute}
-use Rattle.message.specs.Decode.{Sent, numberOf, decodedAs}
 use Rattle.message.specs.Receive.{Figure, hPa, mmHg, °C, m/s, kn, deg, none, Entry, entryOf, receivedAs}
-use Rattle.message.specs.declared.MessageRefusal.{MessageRefusal}
-use Rattle.message.specs.declared.MessageRefusal.the-variants.{NotSixteenBytes, NoSuchChannel, ByteNotZero, WetBulbNotWater, MinuteTooLate, NotFinite, OutsideLimits}
-use Rattle.message.specs.declared.Decoded.{Decoded}
-use Rattle.message.specs.declared.Decoded.the-variants as decoding
+use Rattle.wire.proofs.SingleAnswers.{refusal, refusal-back}
 use Rattle.message.specs.declared.Reading.{Reading}
 use Rattle.message.specs.declared.Reading.the-variants.{Hectopascals, Millimetres, Wheelhouse, ApparentWind, ShipMotion, DryBulb, WetBulb}
 use Rattle.message.specs.declared.Received.{Received}
 use Rattle.message.specs.declared.Received.the-variants as receiving
-use Rattle.message.proofs.decode.Reads as decode
 use Rattle.message.proofs.receive.Reads as receive
-
--- ---- the refusal of a number
-
-abbrev pub refusal : ℕ → MessageRefusal
-refusal n =
-    cond (eqb n 1) NotSixteenBytes
-    (cond (eqb n 2) NoSuchChannel
-    (cond (eqb n 3) ByteNotZero
-    (cond (eqb n 4) WetBulbNotWater
-    (cond (eqb n 5) MinuteTooLate
-    (cond (eqb n 6) NotFinite
-    OutsideLimits)))))
-
-pub refusal-back : (r : MessageRefusal) → refusal (numberOf r) ≡ r
-refusal-back NotSixteenBytes = refl
-refusal-back NoSuchChannel = refl
-refusal-back ByteNotZero = refl
-refusal-back WetBulbNotWater = refl
-refusal-back MinuteTooLate = refl
-refusal-back NotFinite = refl
-refusal-back OutsideLimits = refl
-
--- ---- decode
-
-abbrev decoding-of : Answer ℕ Sent → Decoded
-decoding-of (refused n) = decoding.Refused (refusal n)
-decoding-of (given s) = decoding.At (record { 0 = s .minute }) (s .message)
-
-decoding-back : (d : Decoded) → decoding-of (decodedAs d) ≡ d
-decoding-back (decoding.Refused r) = ap decoding.Refused (refusal-back r)
-decoding-back (decoding.At t m) = refl
-
-pub single-decode : Single decode.Post
-single-decode κs a r r′ s s′ p q = sym (decoding-back r) ∙ ap decoding-of (p ∙ sym q) ∙ decoding-back r′
-
--- ---- receive
 
 size : Figure → ℕ
 size (hPa z) = natAbs z

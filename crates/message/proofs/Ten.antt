@@ -2,7 +2,7 @@
 -- m * 10 has at most 53 binary digits. Assumes nothing.
 use mathlib.Core.Path.{_≡_, refl, sym, ap, _∙_, subst}
 use mathlib.Core.Bool.{Bool, true, false, not, _&&_}
-use Prim.Native.Nat.{ℕ, zero, suc, _+_, _-_, _*_, _/_, _%_, _^_, _≤_, _<_}
+use Prim.Native.Nat.{ℕ, zero, suc, _+_, _-_, _*_, _%_, _^_, _≤_, _<_}
 use native.Mathlib.Nat.{lt-of-lt-of-le, lt-of-not-le, lt-irrefl, mul-assoc, mul-comm, mul-one, mul-right-comm, mul-lt-mul-of-pos-right, zero-mul, mul-pos, le-of-suc-le-suc}
 use native.Mathlib.Omega.{arith}
 use lib.IntN.{ℤ, pos, negsuc}
@@ -11,9 +11,15 @@ use lib.Pow.{pow-add, pow-pos, pow-mono, pow-lt, shl-lt}
 use lib.Ieee.{Float, nan, inf, fin, binary32, binary64, up, down, unlike, round, mul, fits, ofBits, isNan}
 use lib.Ieee.Fits.{and-i, and-l, and-r, down-pos, fits-widens}
 use lib.Ieee.Exact.{HasValue, round-exact}
-use Rattle.message.specs.Value.{Finite}
-use Rattle.message.specs.Work.{TenTimes, capped}
+use Rattle.wire.specs.Finite.{Finite}
+use Rattle.message.specs.Work.{capped}
 use Rattle.message.proofs.Pattern.{value-whole, finite-no-nan}
+
+-- y is exactly ten times x.
+abbrev TenTimes : Float → Float → Type 0
+TenTimes nan y = ⊥
+TenTimes (inf minus) y = ⊥
+TenTimes (fin minus m e) y = HasValue y minus (10 * (m * up e)) (down e)
 
 -- what `fits` says of an f32 that is not zero
 fits-says : (s : Bool) (m : ℕ) (e : ℤ) → T (fits binary32 (fin s (suc m) e)) → (suc m < 2 ^ 24) × (down e ≤ 2 ^ 149) × (suc m * up e < 2 ^ 128 * down e)

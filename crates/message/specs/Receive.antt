@@ -9,11 +9,11 @@ use Rattle.quantity.specs.Limits as limits
 use Rattle.quantity.specs.Convert.{keptDirection}
 use Rattle.quantity.specs.declared.BarometerUnit.{BarometerUnit}
 use Rattle.quantity.specs.declared.BarometerUnit.the-variants as unit
-use Rattle.message.specs.Bytes.{minute}
+use Rattle.wire.specs.Bytes.{minute}
 use Rattle.message.specs.Value.{tenths, degrees}
-use Rattle.message.specs.Decode.{test, wireTests, message, numberOf}
-use Rattle.message.specs.declared.Message.{Message}
-use Rattle.message.specs.declared.Message.the-variants.{Barometer, Wheelhouse, ApparentWind, ShipMotion, DryBulb, WetBulb}
+use Rattle.wire.specs.Decode.{test, wireTests, message, numberOf}
+use Rattle.wire.specs.declared.Message.{Message}
+use Rattle.wire.specs.declared.Message.the-variants.{Barometer, Wheelhouse, ApparentWind, ShipMotion, DryBulb, WetBulb}
 use Rattle.message.specs.declared.Reading.{Reading}
 use Rattle.message.specs.declared.Reading.the-variants as kept
 use Rattle.message.specs.declared.Received.{Received}

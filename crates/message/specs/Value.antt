@@ -1,7 +1,5 @@
 -- What a binary32 value is kept as: a whole number of tenths or degrees.
-use mathlib.Core.Bool.{Bool, true, false}
 use Prim.Native.Nat.{ℕ, _*_}
-use lib.Dec.{T}
 use lib.IntN.{ℤ, pos}
 use lib.Ieee.{Float, nan, inf, fin, up, down}
 use Rattle.number.specs.Whole.{signed}
@@ -11,16 +9,8 @@ use Rattle.number.specs.Round.{nearest}
 unfoldable pub toWhole : ℕ → ℕ → ℕ
 toWhole num den = nearest num den
 
--- Neither infinite nor not a number. A finite value is plus or minus m * 2 ^ e, written as the fraction m * up e / down e.
-abbrev pub isFinite : Float → Bool
-isFinite nan = false
-isFinite (inf minus) = false
-isFinite (fin minus m e) = true
-
-abbrev pub Finite : Float → Type 0
-Finite x = T (isFinite x)
-
--- n times a value, rounded. (A value that is not finite is refused before, and stands here as 0.)
+-- n times a value, rounded. A finite value is plus or minus m * 2 ^ e, written as the fraction m * up e / down e. (A value
+-- that is not finite is refused before, and stands here as 0.)
 abbrev pub timesRounded : ℕ → Float → ℤ
 timesRounded n nan = pos 0
 timesRounded n (inf minus) = pos 0

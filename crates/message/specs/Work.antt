@@ -1,33 +1,21 @@
 -- What the private functions compute. A reader of the promises needs nothing of this file.
-use mathlib.Core.Bool.{Bool, not, _&&_}
+use mathlib.Core.Bool.{not, _&&_}
 use mathlib.Core.List.{[], _∷_}
-use Prim.Native.Nat.{ℕ, zero, suc, _+_, _*_, _/_, _%_, _^_, min}
-use lib.Dec.{eqb}
+use Prim.Native.Nat.{ℕ, zero, suc, _+_, _*_, _^_, min}
 use lib.IntN.{ℤ, pos}
 use lib.Ieee.{Float, nan, inf, fin, up, down}
-use lib.Ieee.Exact.{HasValue}
 use Rattle.number.specs.Refusal.{Answer, answer}
 use Rattle.number.specs.Whole.{signed}
 use Rattle.quantity.specs.Limits.{Limits, inside}
 use Rattle.quantity.specs.Limits as limits
 use Rattle.message.specs.Value.{toWhole}
-use Rattle.message.specs.Decode.{test}
+use Rattle.wire.specs.Decode.{test}
 use Rattle.message.specs.Receive.{Figure, none, deg, Entry, compass}
-
--- The exponent's field of a binary32 pattern is not all ones.
-abbrev pub finiteBits : ℕ → Bool
-finiteBits b = not (eqb (b % 2 ^ 31 / 2 ^ 23) 255)
 
 -- The digits of a binary64 pattern, with the leading one that normal numbers leave out.
 abbrev pub digits : ℕ → ℕ → ℕ
 digits zero frac = frac
 digits (suc field) frac = 2 ^ 52 + frac
-
--- y is exactly ten times x.
-abbrev pub TenTimes : Float → Float → Type 0
-TenTimes nan y = ⊥
-TenTimes (inf minus) y = ⊥
-TenTimes (fin minus m e) y = HasValue y minus (10 * (m * up e)) (down e)
 
 -- A size above this is taken for this: far above every limit.
 abbrev pub most : ℕ

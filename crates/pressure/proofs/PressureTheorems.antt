@@ -16,8 +16,8 @@ use Rattle.settings.specs.Settings.{every, pointAt, correction, othersHold, che
 use Rattle.settings.specs.Settings as settings
 use Rattle.settings.specs.declared.Settings.{Settings}
 use Rattle.settings.specs.declared.Point.{Point}
-use Rattle.store.specs.Block.{opened}
-use Rattle.store.proofs.SettingsLaws.{others, each, settings-back}
+use Rattle.block.specs.Words.{opened}
+use Rattle.block.proofs.SettingsLaws.{others, each, settings-back}
 use Rattle.pressure.specs.Pressure.{Barometer, barometerIn, barometerOf, around, scaleFrom, scale, outside, temperature, height, seaLevel, stationPressure}
 use Rattle.pressure.proofs.ScaleLaws.{two}
 use Rattle.pressure.proofs.SizeLaws.{scale-size, temperature-size, height-size}

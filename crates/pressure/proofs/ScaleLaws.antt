@@ -19,7 +19,7 @@ use Rattle.settings.specs.Settings.{every, pointAt, pointHolds, rises, certific
 use Rattle.settings.specs.declared.Settings.{Settings}
 use Rattle.settings.specs.declared.Point.{Point}
 use Rattle.settings.proofs.EveryLaws.{every-at}
-use Rattle.store.proofs.OpenedLaws.{certificate}
+use Rattle.block.proofs.OpenedLaws.{certificate}
 use Rattle.pressure.specs.Pressure.{barometerIn, around, between, scale, outside}
 use Rattle.pressure.proofs.OrderLaws.{below-is}
 use Rattle.pressure.proofs.LineLaws.{at-low, at-high}

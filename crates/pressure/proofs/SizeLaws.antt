@@ -13,9 +13,9 @@ use Rattle.number.proofs.Sizes.{size-sum, size-mul}
 use Rattle.quantity.specs.declared.BarometerUnit.{BarometerUnit}
 use Rattle.quantity.specs.declared.BarometerUnit.the-variants.{Hectopascals, Millimetres}
 use Rattle.settings.specs.declared.Point.{Point}
-use Rattle.store.specs.Layout.{POINTS}
-use Rattle.store.specs.Cells.{unbiased}
-use Rattle.store.specs.Block.{unitOf, settingOf, pointOf}
+use Rattle.block.specs.Layout.{POINTS}
+use Rattle.cell.specs.Cells.{unbiased}
+use Rattle.block.specs.Words.{unitOf, settingOf, pointOf}
 use Rattle.pressure.specs.Pressure.{Barometer, barometerOf, around, scaleFrom, scale, temperature, height, toHectopascals, seaLevel}
 use Rattle.pressure.specs.Stored.{Stored}
 use Rattle.pressure.proofs.LineLaws.{rounded-at-most, between-size}

@@ -14,7 +14,7 @@ use Rattle.quantity.specs.declared.BarometerUnit.the-variants.{Hectopascals, Mi
 use Rattle.settings.specs.Settings.{every, pointAt, rises}
 use Rattle.settings.specs.declared.Settings.{Settings}
 use Rattle.settings.specs.declared.Point.{Point}
-use Rattle.store.specs.Block.{unitOf, settingOf, pointsOf, pointOf}
+use Rattle.block.specs.Words.{unitOf, settingOf, pointsOf, pointOf}
 use Rattle.pressure.specs.declared.ScaleCorrection.{ScaleCorrection}
 use Rattle.pressure.specs.declared.ScaleCorrection.the-variants.{Tenths, NoneThere}
 use Rattle.pressure.specs.declared.WorkedPressure.{WorkedPressure}

@@ -5,9 +5,10 @@ ghost use mathlib.Core.Bool.{true};
 ghost use Prim.Native.Nat.{_≤_, _<_, _^_};
 ghost use lib.IntN.{natAbs, _+ℤ_, _*ℤ_};
 ghost use Rattle.number.specs.Whole.{Is};
-ghost use Rattle.store.specs.Block.{unitOf, settingOf};
+ghost use Rattle.block.specs.Words.{unitOf, settingOf};
 ghost use Rattle.pressure.specs.Pressure.{barometerOf, around, line, between, temperature, height, toHectopascals, scaled, scaledAs, seaLevelAnswer, stationAnswer, pressureAs};
 ghost use Rattle.pressure.specs.Stored.{Stored};
+use block::Store;
 use number::Number;
 use quantity::BarometerUnit;
 use quantity::Hectopascals;
@@ -18,7 +19,6 @@ use settings::Height;
 use settings::Point;
 use settings::SeaLevelDifference;
 use settings::TemperatureCoefficient;
-use store::Store;
 
 // The scale correction of a reading.
 pub enum ScaleCorrection {
@@ -91,11 +91,11 @@ fn between(p: Point, q: Point, reading: Number) -> Number
 pub fn scale_correction(store: &Store, reading: Number) -> ScaleCorrection
     ensures { λ r. ⌜ scaledAs r ≡ scaled (barometerOf (now (store .entry))) (reading .v) ⌝ }
 {
-    let n = store::points(store);
+    let n = block::points(store);
     let mut i: u32 = 0;
     while i + 1 < n {
-        let p = store::point(store, i);
-        let q = store::point(store, i + 1);
+        let p = block::point(store, i);
+        let q = block::point(store, i + 1);
         if around(p, q, reading) {
             return ScaleCorrection::Tenths(between(p, q, reading));
         }
@@ -153,11 +153,11 @@ fn corrected(
         +ℤ height (unitOf (now (store .entry))) (settingOf (now (store .entry)) 1) (settingOf (now (store .entry)) 2))
         (2 ^ 30) ⌝ }
 {
-    let warm = temperature_correction(store::coefficient(store), wheelhouse);
+    let warm = temperature_correction(block::coefficient(store), wheelhouse);
     let high = height_correction(
-        store::unit(store),
-        store::height(store),
-        store::difference(store),
+        block::unit(store),
+        block::height(store),
+        block::difference(store),
     );
     reading.plus(scale).plus(warm).plus(high)
 }
@@ -170,7 +170,7 @@ pub fn sea_level_pressure(
 ) -> WorkedPressure
     ensures { λ r. ⌜ pressureAs r ≡ seaLevelAnswer (barometerOf (now (store .entry))) (reading .v) (wheelhouse .0 .v) ⌝ }
 {
-    let unit = store::unit(store);
+    let unit = block::unit(store);
     let degrees = wheelhouse.0;
     if !unit.holds(reading) {
         return WorkedPressure::OutsideLimits;
@@ -191,7 +191,7 @@ pub fn sea_level_pressure(
 pub fn station_pressure(store: &Store, reading: Number) -> WorkedPressure
     ensures { λ r. ⌜ pressureAs r ≡ stationAnswer (barometerOf (now (store .entry))) (reading .v) ⌝ }
 {
-    let unit = store::unit(store);
+    let unit = block::unit(store);
     if !unit.holds(reading) {
         return WorkedPressure::OutsideLimits;
     }

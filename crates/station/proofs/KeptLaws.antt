@@ -16,9 +16,11 @@ use Rattle.message.specs.Receive.{°C, m/s, kn, pressure}
 use Rattle.window.specs.Window as window
 use Rattle.window.specs.declared.Found.{Found}
 use Rattle.window.specs.declared.Found.the-variants.{Absent, Cell}
-use Rattle.store.specs.Layout.{CHANNELS}
-use Rattle.store.specs.Cells.{unbiased, paired, firstIn, secondIn, entryIn, numberIn, limitsOf, soundIn}
-use Rattle.store.specs.Block.{Recall, absent, recalled, unitOf, windowOf, recallIn, recallOf}
+use Rattle.cell.specs.Cells.{CHANNELS}
+use Rattle.cell.specs.Cells.{unbiased, paired, firstIn, secondIn, entryIn, numberIn, limitsOf, soundIn}
+use Rattle.cell.specs.Cells.{Recall, absent, recalled}
+use Rattle.block.specs.Words.{unitOf, windowOf}
+use Rattle.store.specs.Block.{recallIn, recallOf}
 use Rattle.store.specs.History.{isPresent}
 use Rattle.station.specs.Source.{numberOf, first, second}
 

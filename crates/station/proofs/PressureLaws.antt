@@ -10,9 +10,9 @@ use borrow.Author.Tests.{not-false}
 use Rattle.number.specs.Refusal.{Numbered, numbered, Test, Answer, refused, given, answer}
 use Rattle.number.proofs.Sizes.{within-size}
 use Rattle.quantity.specs.Limits.{inside, pressureLimits, wheelhouse}
-use Rattle.store.specs.Block.{unitOf}
+use Rattle.block.specs.Words.{unitOf}
 use Rattle.store.specs.History.{isPresent}
-use Rattle.store.proofs.SettingsLaws.{pressure-size}
+use Rattle.message.proofs.Keep.{pressure-size}
 use Rattle.pressure.specs.Pressure.{Barometer, barometerOf, outside, seaLevel, seaLevelAnswer, stationPressure, stationAnswer, pressureAs}
 use Rattle.pressure.specs.declared.WorkedPressure.{WorkedPressure}
 use Rattle.pressure.specs.declared.WorkedPressure.the-variants.{Given, OutsideLimits, OutsideCertificate}

@@ -11,20 +11,21 @@ use lib.ListN.{length}
 use borrow.Author.Tests.{eq-eqb}
 use Rattle.number.specs.Refusal.{Numbered, Test, Answer, refused, given, answer, Holds, NoneBelow, First}
 use Rattle.number.proofs.RefusalLaws.{refused-then, then-refused, given-then, then-given, in-number-order}
-use Rattle.message.specs.Bytes.{minute}
-use Rattle.message.specs.Decode.{message}
+use Rattle.wire.specs.Bytes.{minute}
+use Rattle.wire.specs.Decode.{message}
 use Rattle.message.specs.Receive.{Entry, entry, tests}
-use Rattle.message.specs.declared.Message.{Message}
-use Rattle.message.specs.declared.Message.the-variants.{Barometer, Wheelhouse, ApparentWind, ShipMotion, DryBulb, WetBulb}
+use Rattle.wire.specs.declared.Message.{Message}
+use Rattle.wire.specs.declared.Message.the-variants.{Barometer, Wheelhouse, ApparentWind, ShipMotion, DryBulb, WetBulb}
 use Rattle.quantity.specs.declared.BarometerUnit.{BarometerUnit}
 use Rattle.settings.specs.Settings.{checked}
 use Rattle.settings.specs.declared.Settings.{Settings}
 use Rattle.window.specs.Layout.{WINDOW}
 use Rattle.window.specs.Window.{takes, next}
-use Rattle.store.specs.Layout.{CHANNELS}
-use Rattle.store.specs.Block.{unitOf, windowOf, isLater, hearing, hearTests, entryOfBytes}
+use Rattle.cell.specs.Cells.{CHANNELS}
+use Rattle.block.specs.Words.{unitOf, windowOf}
+use Rattle.store.specs.Block.{isLater, hearing, hearTests, entryOfBytes}
 use Rattle.store.specs.History.{nextOf, history, store-of}
-use Rattle.store.proofs.BlockLaws.{window-long}
+use Rattle.block.proofs.BlockLaws.{window-long}
 use Rattle.store.proofs.HistoryLaws.{store-remembers}
 use Rattle.station.specs.Questions.{Answers}
 use Rattle.station.specs.Feeds.{wouldKeep, messageTests}

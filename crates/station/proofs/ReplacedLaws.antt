@@ -15,7 +15,7 @@ use Rattle.message.specs.Receive.{Entry, received}
 use Rattle.settings.specs.declared.Settings.{Settings}
 use Rattle.window.specs.Layout.{MINUTES}
 use Rattle.window.proofs.AbsentLaws.{absents-alike}
-use Rattle.store.specs.Block.{Recall, absent, recalled}
+use Rattle.cell.specs.Cells.{Recall, absent, recalled}
 use Rattle.store.specs.History.{nextOf, grown, history, lookup, remembered, isPresent}
 use Rattle.station.specs.Source.{heard}
 use Rattle.station.specs.Told.{TellsPressure, TellsTendency, TellsWind, TellsHumidity}

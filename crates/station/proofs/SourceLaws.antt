@@ -6,7 +6,7 @@ use mathlib.Core.List.{List, [], _∷_, _++_}
 use Prim.Native.Nat.{ℕ, _-_}
 use lib.IntN.{ℤ, pos, natAbs, _-ℤ_}
 use Rattle.number.specs.Refusal.{Numbered, numbered, Test, Answer, answer}
-use Rattle.store.specs.Block.{Recall}
+use Rattle.cell.specs.Cells.{Recall}
 use Rattle.store.specs.History.{isPresent}
 use Rattle.pressure.specs.Pressure.{outside, seaLevel, stationPressure}
 use Rattle.pressure.proofs.PressureTheorems.{Alike, alike-outside, alike-sea-level, alike-station}

@@ -19,13 +19,16 @@ use Rattle.settings.specs.Settings.{checked, othersHold, nowhere}
 use Rattle.settings.specs.Settings as settings
 use Rattle.settings.specs.declared.Settings.{Settings}
 use Rattle.settings.specs.declared.Point.{Point}
-use Rattle.store.specs.Layout.{SETTINGS, WORDS, CHANNELS, POINTS}
-use Rattle.store.specs.Cells.{unbiased, limitsOf}
-use Rattle.store.specs.Block.{Recall, opened, unitOf, settingOf, pointIn, pointOf, recallOf, absentOf}
+use Rattle.block.specs.Layout.{SETTINGS, WORDS, POINTS}
+use Rattle.cell.specs.Cells.{CHANNELS}
+use Rattle.cell.specs.Cells.{unbiased, limitsOf}
+use Rattle.cell.specs.Cells.{Recall}
+use Rattle.block.specs.Words.{opened, unitOf, settingOf, pointIn, pointOf}
+use Rattle.store.specs.Block.{recallOf, absentOf}
 use Rattle.store.specs.History.{history, remembered, isPresent, Remembers, store-of}
 use Rattle.store.proofs.HistoryLaws.{store-remembers}
 use Rattle.store.proofs.StoreTheorems.{settings-stay-heard, absent-count}
-use Rattle.store.proofs.SettingsLaws.{settings-back, others}
+use Rattle.block.proofs.SettingsLaws.{settings-back, others}
 use Rattle.pressure.specs.Pressure.{Barometer, barometerIn, barometerOf, stationPressure}
 use Rattle.pressure.proofs.PressureTheorems.{Alike, alike-station, opened-alike, station-recorded}
 use Rattle.station.specs.Source.{Source, heard, held, first}

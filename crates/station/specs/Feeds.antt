@@ -7,8 +7,8 @@ use Prim.Native.Nat.{ℕ, _-_}
 use lib.Dec.{eqb, ltb, leb}
 use Rattle.number.specs.Refusal.{Test, given}
 use Rattle.quantity.specs.declared.BarometerUnit.{BarometerUnit}
-use Rattle.message.specs.Bytes.{minute}
-use Rattle.message.specs.Decode.{message}
+use Rattle.wire.specs.Bytes.{minute}
+use Rattle.wire.specs.Decode.{message}
 use Rattle.message.specs.Receive.{Entry, entry, received, tests}
 use Rattle.settings.specs.declared.Settings.{Settings}
 use Rattle.store.specs.History.{nextOf, history, belongs}

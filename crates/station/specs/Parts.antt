@@ -8,7 +8,7 @@ use Rattle.number.specs.Refusal.{Numbered, numbered, Test, Answer, refused, giv
 use Rattle.quantity.specs.Limits.{inside, pressureLimits, recordedPressure, wheelhouse, bulb}
 use Rattle.settings.specs.Settings as settings
 use Rattle.vapour.specs.Vapour.{IsTable}
-use Rattle.store.specs.Block.{Recall}
+use Rattle.cell.specs.Cells.{Recall}
 use Rattle.store.specs.History.{isPresent}
 use Rattle.pressure.specs.Pressure.{outside, seaLevel, stationPressure}
 use Rattle.wind.specs.Answer.{IsWind}

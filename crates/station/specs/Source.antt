@@ -6,7 +6,9 @@ use lib.IntN.{ℤ, pos}
 use Rattle.message.specs.Receive.{Figure, hPa, mmHg, °C, m/s, kn, deg, none}
 use Rattle.settings.specs.declared.Settings.{Settings}
 use Rattle.window.specs.Window.{absents}
-use Rattle.store.specs.Block.{Recall, absent, recalled, settingOf, recallOf, absentOf}
+use Rattle.cell.specs.Cells.{Recall, absent, recalled}
+use Rattle.block.specs.Words.{settingOf}
+use Rattle.store.specs.Block.{recallOf, absentOf}
 use Rattle.store.specs.History.{history, remembered, isPresent}
 use Rattle.pressure.specs.Pressure.{Barometer, barometerIn, barometerOf}
 

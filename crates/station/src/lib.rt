@@ -7,11 +7,14 @@ ghost use lib.IntN.{natAbs};
 ghost use Rattle.message.specs.Receive.{entryOf};
 ghost use Rattle.settings.specs.Settings.{checked, checkedAs};
 ghost use Rattle.wind.specs.Answer.{withinLimits};
-ghost use Rattle.store.specs.Block.{openedBy, recallOf, recalled, Hears};
+ghost use Rattle.store.specs.Block.{openedBy, recallOf, Hears};
+ghost use Rattle.cell.specs.Cells.{recalled};
 ghost use Rattle.station.specs.Source.{held, first, second};
 ghost use Rattle.station.specs.Questions.{foreign};
 ghost use Rattle.station.specs.Told.{TellsPressure, TellsTendency, TellsWind, TellsHumidity};
 ghost use Rattle.station.specs.Parts.{Reads, PressureReady, Works, HumidityReady, Blowing, Moist, TellsAt};
+use block::Store;
+use cell::Recalled;
 use humidity::HumidityFigures;
 use humidity::Moisture;
 use message::Reading;
@@ -27,8 +30,6 @@ use quantity::WheelhouseTemperature;
 use settings::Checked;
 use settings::Settings;
 use store::Hearing;
-use store::Recalled;
-use store::Store;
 use wind::TrueWind;
 
 // Why a question is refused.
@@ -304,7 +305,7 @@ fn moist(store: &Store, minute: u32, reading: Number, dry: Number, wet: Number) 
         WorkedPressure::Given(p) => {
             let t = BulbTemperature(dry.keep());
             let u = BulbTemperature(wet.keep());
-            match humidity::humidity(t, u, p, store::psychrometer(store)) {
+            match humidity::humidity(t, u, p, block::psychrometer(store)) {
                 Moisture::Given(h) => HumidityAnswer::Given(h),
                 Moisture::WetAboveDry => HumidityAnswer::Refused(QuestionRefusal::WetAboveDry),
                 Moisture::TooDry => HumidityAnswer::Refused(QuestionRefusal::TooDry),

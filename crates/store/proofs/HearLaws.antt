@@ -4,15 +4,16 @@ use mathlib.Core.Bool.{Bool, true, false}
 use mathlib.Core.List.{List}
 use Prim.Native.Nat.{ℕ}
 use Rattle.number.specs.Refusal.{refused, given}
-use Rattle.message.specs.Decode.{numberOf}
+use Rattle.wire.specs.Decode.{numberOf}
 use Rattle.message.specs.Receive.{Entry, received}
-use Rattle.message.specs.declared.MessageRefusal.{MessageRefusal}
+use Rattle.wire.specs.declared.MessageRefusal.{MessageRefusal}
 use Rattle.window.specs.Window.{Taken}
-use Rattle.store.specs.Cells.{cellOf}
-use Rattle.store.specs.Block.{unitOf, windowOf, replaced, isLater, heardBy, Keeps, Hears}
+use Rattle.cell.specs.Cells.{cellOf}
+use Rattle.block.specs.Words.{unitOf, windowOf, replaced}
+use Rattle.store.specs.Block.{isLater, heardBy, Keeps, Hears}
 use Rattle.store.specs.declared.Hearing.{Hearing}
 use Rattle.store.specs.declared.Hearing.the-variants.{Heard, Refused, NotLater}
-use Rattle.store.proofs.BlockLaws.{put-back}
+use Rattle.block.proofs.BlockLaws.{put-back}
 use Rattle.store.proofs.HearingLaws.{hearing-refused, hearing-given}
 
 -- ---- one entry

@@ -8,7 +8,8 @@ use native.Mathlib.Omega.{arith}
 use Rattle.number.specs.Refusal.{Test, Answer, refused, given, answer}
 use Rattle.number.proofs.RefusalLaws.{refused-stays, given-goes-on, given-is}
 use Rattle.message.specs.Receive.{Entry, tests, received}
-use Rattle.store.specs.Block.{unitOf, entryOfBytes, isLater, hearing, kept, keptBy, heardBy}
+use Rattle.block.specs.Words.{unitOf}
+use Rattle.store.specs.Block.{entryOfBytes, isLater, hearing, kept, keptBy, heardBy}
 
 abbrev lastTest : Bool → List (Test ℕ)
 lastTest later = record { refusal = 8; holds = not later } ∷ []

@@ -24,13 +24,16 @@ use Rattle.window.specs.declared.Found.{Found}
 use Rattle.window.specs.declared.Found.the-variants.{Absent, Cell}
 use Rattle.window.proofs.PresentLaws.{present-late}
 use Rattle.window.proofs.KeptLaws.{absent-kept, length-after, next-after, present-after, kept-after}
-use Rattle.store.specs.Layout.{CHANNELS, SETTINGS, WORDS}
-use Rattle.store.specs.Cells.{cellOf, entryIn}
-use Rattle.store.specs.Block.{opened, unitOf, windowOf, isLater, hearing, kept, heardBy, Recall, absent, recalled, recallIn, recallOf}
+use Rattle.cell.specs.Cells.{CHANNELS}
+use Rattle.block.specs.Layout.{SETTINGS, WORDS}
+use Rattle.cell.specs.Cells.{cellOf, entryIn}
+use Rattle.block.specs.Words.{opened, unitOf, windowOf}
+use Rattle.store.specs.Block.{isLater, hearing, kept, heardBy, recallIn, recallOf}
+use Rattle.cell.specs.Cells.{Recall, absent, recalled}
 use Rattle.store.specs.History.{nextOf, grown, history, lookup, remembered, isPresent, Remembers, store-of}
-use Rattle.store.proofs.CellLaws.{Back, received-back}
-use Rattle.store.proofs.BlockLaws.{window-long, replaced-long, here, beside, settings-stay}
-use Rattle.store.proofs.OpenedLaws.{opened-long, opened-unit, opened-next}
+use Rattle.cell.proofs.CellLaws.{Back, received-back}
+use Rattle.block.proofs.BlockLaws.{window-long, replaced-long, here, beside, settings-stay}
+use Rattle.block.proofs.OpenedLaws.{opened-long, opened-unit, opened-next}
 use Rattle.store.proofs.HearingLaws.{hearing-refused, hearing-given, heard-refused, heard-given}
 
 -- ---- histories
@@ -164,7 +167,7 @@ pub opened-remembers : (g : Settings) → checked g ≡ given tt → Remembers (
 unfolding history
 opened-remembers g good =
     remembers (opened g) (g .unit) [] (opened-long g) (opened-unit g)
-    (λ c l. means-nothing (g .unit) c (windowOf c (opened g)) (opened-next g good c l))
+    (λ c l. means-nothing (g .unit) c (windowOf c (opened g)) (opened-next g c l))
 
 -- a message that nothing is kept of
 unchanged : (s : List ℕ) (u : BarometerUnit) (M : List (List ℕ)) (m : List ℕ) → Remembers s u M

@@ -1,10 +1,4 @@
-pub mod ReceivedLaws
-pub mod CellLaws
-pub mod BlockLaws
-pub mod ListedLaws
-pub mod OpenedLaws
 pub mod OpenLaws
-pub mod SettingsLaws
 pub mod HearingLaws
 pub mod HearLaws
 pub mod HistoryLaws

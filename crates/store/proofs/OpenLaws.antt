@@ -1,51 +1,12 @@
--- A block of zeros into which the settings are written word by word is the opened block. Assumes nothing.
-use mathlib.Core.Path.{_≡_, refl, sym, ap, _∙_}
+-- What an opening leaves: the block with the settings laid, or the block as it was. Assumes nothing.
+use mathlib.Core.Path.{_≡_}
 use mathlib.Core.List.{List}
-use Prim.Native.Nat.{ℕ, zero, suc, _+_, _≤_, _<_}
-use native.Mathlib.Decide.{ℕ-discrete, decLt}
-use native.Mathlib.Omega.{arith}
-use lib.ListN.{getD, set, length, replicate}
-use lib.Seq.{getD-set-same, getD-set-other, ext-getD}
+use Prim.Native.Nat.{ℕ}
 use Rattle.number.specs.Refusal.{refused, given}
 use Rattle.settings.specs.Settings.{checked}
 use Rattle.settings.specs.declared.Settings.{Settings}
-use Rattle.store.specs.Layout.{SETTINGS, WORDS}
-use Rattle.store.specs.Block.{openedWord, opened, openedBy}
-use Rattle.store.proofs.OpenedLaws.{opened-long, word-at, nothing-heard}
-
-module _ (f : ℕ → ℕ) (l : List ℕ) (i : ℕ) where
-  -- one more word is written
-  pub more-written : i < length l → ((k : ℕ) → k < i → getD l k 0 ≡ f k) → (k : ℕ) → k < i + 1 → getD (set l i (f i)) k 0 ≡ f k
-  more-written h done k b = go (ℕ-discrete k i)
-    where
-      go : Dec (k ≡ i) → getD (set l i (f i)) k 0 ≡ f k
-      go (yes e) = rw e (getD-set-same l i (f i) 0 h)
-      go (no ne) = getD-set-other l i k (f i) 0 ne ∙ done k (omega arith)
-
-  -- and the words behind it stay
-  pub less-left : (v : ℕ) → ((k : ℕ) → i ≤ k → getD l k 0 ≡ 0) → (k : ℕ) → i + 1 ≤ k → getD (set l i v) k 0 ≡ 0
-  less-left v rest k b = let ne : k ≡ i → ⊥ = λ e. omega arith in getD-set-other l i k v 0 ne ∙ rest k (omega arith)
-
-module _ (g : Settings) (few : g .count ≤ 16) (l : List ℕ) (long : length l ≡ WORDS) where
-  pub all-written : ((k : ℕ) → k < SETTINGS → getD l k 0 ≡ openedWord g k) → ((k : ℕ) → SETTINGS ≤ k → getD l k 0 ≡ 0) → l ≡ opened g
-  all-written done rest = ext-getD 0 l (opened g) (long ∙ sym (opened-long g)) same
-    where
-      same : (k : ℕ) → k < length l → getD l k 0 ≡ getD (opened g) k 0
-      same k b = go (decLt k SETTINGS)
-        where
-          inside : k < WORDS
-          inside = omega arith
-
-          go : Dec (k < SETTINGS) → getD l k 0 ≡ getD (opened g) k 0
-          go (yes s) = done k s ∙ sym (word-at g k inside)
-          go (no s) = rest k (omega arith) ∙ sym (word-at g k inside ∙ nothing-heard g few k (omega arith))
-
--- ---- an opening
-
-pub zeros : (n i : ℕ) → _≡_ {A = ℕ} (getD (replicate n 0) i 0) 0
-zeros zero i = refl
-zeros (suc n) zero = refl
-zeros (suc n) (suc i) = zeros n i
+use Rattle.block.specs.Words.{opened}
+use Rattle.store.specs.Block.{openedBy}
 
 pub opens : (s : List ℕ) (g : Settings) → checked g ≡ given tt → opened g ≡ openedBy s g
 unfolding openedBy

@@ -11,19 +11,22 @@ use borrow.Author.Tests.{leb-true, lt-ltb, eq-eqb, ne-eqb}
 use Rattle.number.specs.Refusal.{Answer, refused, given}
 use Rattle.number.proofs.Sizes.{and-true}
 use Rattle.quantity.specs.declared.BarometerUnit.{BarometerUnit}
-use Rattle.message.specs.Bytes.{channel}
+use Rattle.wire.specs.Bytes.{channel}
 use Rattle.message.specs.Receive.{Entry, received}
 use Rattle.window.specs.Layout.{MINUTES, WINDOW}
 use Rattle.window.specs.Window.{present, accepted, absents}
 use Rattle.window.proofs.KeptLaws.{length-after}
 use Rattle.window.proofs.AbsentLaws.{absents-alike}
-use Rattle.store.specs.Layout.{CHANNELS, SETTINGS, WORDS}
-use Rattle.store.specs.Cells.{cellOf}
-use Rattle.store.specs.Block.{unitOf, windowOf, hearing, heardBy, absent, absentOf}
+use Rattle.cell.specs.Cells.{CHANNELS}
+use Rattle.block.specs.Layout.{SETTINGS, WORDS}
+use Rattle.cell.specs.Cells.{cellOf}
+use Rattle.block.specs.Words.{unitOf, windowOf}
+use Rattle.store.specs.Block.{hearing, heardBy, absentOf}
+use Rattle.cell.specs.Cells.{absent}
 use Rattle.store.specs.History.{nextOf, grown, history, belongs, of-channel, lookup, remembered, isPresent, Remembers}
-use Rattle.store.proofs.ReceivedLaws.{received-long, received-channel}
-use Rattle.store.proofs.CellLaws.{received-back}
-use Rattle.store.proofs.BlockLaws.{window-long, beside, settings-stay}
+use Rattle.cell.proofs.ReceivedLaws.{received-long, received-channel}
+use Rattle.cell.proofs.CellLaws.{received-back}
+use Rattle.block.proofs.BlockLaws.{window-long, beside, settings-stay}
 use Rattle.store.proofs.HearingLaws.{hearing-was, heard-refused, heard-given}
 use Rattle.store.proofs.HistoryLaws.{remembered-in, remembered-gone, remembered-step, grown-other, history-step}
 

@@ -7,13 +7,16 @@ use lib.Dec.{eqb, leb}
 use lib.ListN.{length}
 use Rattle.number.specs.Refusal.{Answer, refused, given}
 use Rattle.quantity.specs.declared.BarometerUnit.{BarometerUnit}
-use Rattle.message.specs.Bytes.{channel}
+use Rattle.wire.specs.Bytes.{channel}
 use Rattle.message.specs.Receive.{Entry, received}
 use Rattle.settings.specs.declared.Settings.{Settings}
 use Rattle.window.specs.Layout.{MINUTES}
 use Rattle.window.specs.Window.{next, present}
-use Rattle.store.specs.Layout.{CHANNELS, WORDS}
-use Rattle.store.specs.Block.{Recall, absent, recalled, opened, heardBy, unitOf, windowOf, recallOf}
+use Rattle.cell.specs.Cells.{CHANNELS}
+use Rattle.block.specs.Layout.{WORDS}
+use Rattle.cell.specs.Cells.{Recall, absent, recalled}
+use Rattle.block.specs.Words.{opened, unitOf, windowOf}
+use Rattle.store.specs.Block.{heardBy, recallOf}
 
 -- The minute after the newest that was accepted; 0 where none was.
 abbrev pub nextOf : List Entry → ℕ

@@ -1,4 +1,2 @@
-pub mod Layout
-pub mod Cells
 pub mod Block
 pub mod History

@@ -17,9 +17,9 @@ ghost use Rattle.listing.specs.Listing.{listingOf};
 ghost use Rattle.zhitomrak.specs.Told.{numberOf, refusalIn, pressureIn, tendencyIn, windIn, humidityIn, HeardAs, PressureTells, TendencyTells, WindTells, HumidityTells};
 ghost use Rattle.zhitomrak.specs.Opening.{unitIn, settingsIn, OpenedAs};
 ghost use Rattle.zhitomrak.specs.Files.{half, octet, recordIn, nothing, fileOf, fileIn, pressureBody, tendencyBody, windBody, humidityBody, bodyOf, recordOf, writeIn, WroteAs, listedBy, ListedAs};
+use block::Store;
 use humidity::HumidityFigures;
 use listing::Listed;
-use message::MessageRefusal;
 use number::Kept;
 use number::Number;
 use quantity::BarometerUnit;
@@ -38,10 +38,10 @@ use station::QuestionRefusal;
 use station::TendencyAnswer;
 use station::WindAnswer;
 use store::Hearing;
-use store::Store;
 use watchfile::Body;
 use watchfile::RECORDS;
 use watchfile::Record;
+use wire::MessageRefusal;
 use writer::Written;
 
 // The settings of a store. The unit is 0 for hPa and 1 for mm Hg.

@@ -1,6 +1,6 @@
 -- `is_missing_at` meets its contract. Assumes nothing.
 use mathlib.Core.Path.{ap, _∙_}
-use Rattle.store.specs.Block.{Recall}
+use Rattle.cell.specs.Cells.{Recall}
 use mathlib.Core.Bool.{not}
 use Rattle.store.specs.History.{isPresent}
 use borrow.Author.Needs.{needs}

@@ -10,7 +10,7 @@ use Rattle.quantity.specs.Limits as limits
 use Rattle.quantity.specs.declared.BarometerUnit.{BarometerUnit}
 use Rattle.quantity.specs.declared.BarometerUnit.the-variants.{Hectopascals, Millimetres}
 use Rattle.message.specs.Value.{timesRounded}
-use Rattle.message.specs.Kinds.{Sound}
+use Rattle.wire.specs.Kinds.{Sound}
 use Rattle.message.specs.Receive.{Figure, °C, m/s, kn, Entry, pressure}
 use Rattle.message.specs.Work.{capped, oneFigure, twoFigures}
 use Rattle.message.proofs.Keep.{Small, one-exact, two-exact}
@@ -80,8 +80,8 @@ enum-known-m-5 c = search needs
 tenths-requires-5 : tie.Need-tenths-requires-5
 tenths-requires-5 c κs = subst Sound (c .before .m5 .given .1) (c .before .before .before .pre)
 
-dry-bulb-requires : tie.Need-dry-bulb-requires
-dry-bulb-requires c κs = search needs
+bulb-requires : tie.Need-bulb-requires
+bulb-requires c κs = search needs
 
 enum-known-m-6 : tie.Need-enum-known-m-6
 enum-known-m-6 c = search needs
@@ -89,8 +89,8 @@ enum-known-m-6 c = search needs
 tenths-requires-6 : tie.Need-tenths-requires-6
 tenths-requires-6 c κs = subst Sound (c .before .m6 .given .1) (c .before .before .before .pre)
 
-wet-bulb-requires : tie.Need-wet-bulb-requires
-wet-bulb-requires c κs = search needs
+bulb-requires-2 : tie.Need-bulb-requires-2
+bulb-requires-2 c κs = search needs
 
 returns : tie.Need-returns
 returns c =
@@ -120,13 +120,13 @@ returns-5 : tie.Need-returns-5
 returns-5 c =
     let m = c .before .before .before .m5 .given in
     let start = c .before .before .before .before .before .args in
-    rw (m .1) (one limits.bulb (lit< tt, lit< tt) 4 (start .minute .0) °C (m .0 .0) (c .dry-bulb .ensures) (c .before .tenths5 .ensures))
+    rw (m .1) (one limits.bulb (lit< tt, lit< tt) 4 (start .minute .0) °C (m .0 .0) (c .bulb .ensures) (c .before .tenths5 .ensures))
 
 returns-6 : tie.Need-returns-6
 returns-6 c =
     let m = c .before .before .before .m6 .given in
     let start = c .before .before .before .before .before .args in
-    rw (m .1) (one limits.bulb (lit< tt, lit< tt) 5 (start .minute .0) °C (m .0 .0) (c .wet-bulb .ensures) (c .before .tenths6 .ensures))
+    rw (m .1) (one limits.bulb (lit< tt, lit< tt) 5 (start .minute .0) °C (m .0 .0) (c .bulb2 .ensures) (c .before .tenths6 .ensures))
 
 pub kept-spec : {M : Type 1} → statement M
 kept-spec =
@@ -148,10 +148,10 @@ kept-spec =
     ship-motion-requires
     enum-known-m-5
     tenths-requires-5
-    dry-bulb-requires
+    bulb-requires
     enum-known-m-6
     tenths-requires-6
-    wet-bulb-requires
+    bulb-requires-2
     returns
     returns-2
     returns-3

@@ -6,10 +6,10 @@ use denote.Ref.{now}
 use Rattle.number.specs.Refusal.{Answer, refused, given, answer}
 use Rattle.number.proofs.RefusalLaws.{refused-stays, given-goes-on}
 use Rattle.quantity.specs.declared.BarometerUnit.{BarometerUnit}
-use Rattle.message.specs.Bytes.{minute}
-use Rattle.message.specs.Decode.{wireTests, message, Sent, sent, decoded, decodedAs}
+use Rattle.wire.specs.Bytes.{minute}
+use Rattle.wire.specs.Decode.{wireTests, message, Sent, sent, decoded, decodedAs}
 use Rattle.message.specs.Receive.{Entry, entry, limitTests, received}
-use Rattle.message.proofs.DecodeLaws.{decoded-is, decoded-sound}
+use Rattle.wire.proofs.DecodeLaws.{decoded-is, decoded-sound}
 use borrow.Author.Needs.{needs}
 use Rattle.message.proofs.receive.Statement.{statement}
 use Rattle.message.proofs.receive.Tie as tie

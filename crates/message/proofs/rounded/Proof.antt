@@ -8,7 +8,8 @@ use lib.Ieee.{Float, binary64, fits, toBits, ofBits}
 use lib.Ieee.Bits.{ofBits-toBits}
 use lib.Ieee.Exact.{HasValue}
 use Rattle.number.specs.Whole.{signed}
-use Rattle.message.specs.Value.{Finite, toWhole}
+use Rattle.wire.specs.Finite.{Finite}
+use Rattle.message.specs.Value.{toWhole}
 use Rattle.message.specs.Work.{digits, most, capped}
 use Rattle.message.proofs.Pattern.{finite-no-nan, bits-value, value-whole}
 use borrow.Author.Needs.{needs}

@@ -8,7 +8,7 @@ use lib.IntN.{ℤ, natAbs}
 use lib.ListN.{getD}
 use mathlib.Core.List.{List}
 use Rattle.quantity.specs.declared.BarometerUnit.{BarometerUnit}
-use Rattle.store.specs.Block.{unitOf, settingOf}
+use Rattle.block.specs.Words.{unitOf, settingOf}
 use Rattle.pressure.specs.Pressure.{temperature, height}
 use Rattle.pressure.proofs.SizeLaws.{temperature-stored, height-stored}
 use borrow.Author.Needs.{needs}
@@ -17,10 +17,10 @@ use Rattle.pressure.proofs.corrected.Tie as tie
 use Rattle.number.proofs.Number.plus.Reads as plus-reads
 use Rattle.pressure.proofs.height_correction.Reads as height-correction-reads
 use Rattle.pressure.proofs.temperature_correction.Reads as temperature-correction-reads
-use Rattle.store.proofs.coefficient.Reads as coefficient-reads
-use Rattle.store.proofs.difference.Reads as difference-reads
-use Rattle.store.proofs.height.Reads as height-reads
-use Rattle.store.proofs.unit.Reads as unit-reads
+use Rattle.block.proofs.coefficient.Reads as coefficient-reads
+use Rattle.block.proofs.difference.Reads as difference-reads
+use Rattle.block.proofs.height.Reads as height-reads
+use Rattle.block.proofs.unit.Reads as unit-reads
 
 -- the two corrections as they were worked: of the block's settings, and so large at most
 warm : (s : List ℕ) (k t : ℤ) {r : ℤ} → r ≡ temperature k t → k ≡ settingOf s 3 → natAbs t ≤ 600 → (r ≡ temperature (settingOf s 3) t) × (natAbs r ≤ 19661)

@@ -7,7 +7,7 @@ use denote.Ref.{now}
 use lib.IntN.{ℤ}
 use Rattle.number.specs.Refusal.{given}
 use Rattle.settings.specs.declared.Point.{Point}
-use Rattle.store.specs.Block.{pointOf}
+use Rattle.block.specs.Words.{pointOf}
 use Rattle.pressure.specs.Pressure.{barometerOf, around, between, scaled}
 use Rattle.pressure.specs.Stored.{Stored}
 use Rattle.pressure.proofs.PairLaws.{pairs, whole, found, next, none}
@@ -17,8 +17,8 @@ use Rattle.pressure.proofs.scale_correction.Statement.{statement}
 use Rattle.pressure.proofs.scale_correction.Tie as tie
 use Rattle.pressure.proofs.around.Reads as around-reads
 use Rattle.pressure.proofs.between.Reads as between-reads
-use Rattle.store.proofs.point.Reads as point-reads
-use Rattle.store.proofs.points.Reads as points-reads
+use Rattle.block.proofs.point.Reads as point-reads
+use Rattle.block.proofs.points.Reads as points-reads
 
 -- a test of two points that were read, as one of the points that the block holds
 said : (r : ℤ) {p q a b : Point} {x t : Bool} → x ≡ around p q r → p ≡ a → q ≡ b → x ≡ t → around a b r ≡ t

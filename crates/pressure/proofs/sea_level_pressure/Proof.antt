@@ -8,8 +8,8 @@ use borrow.Author.Tests.{not-true, not-false}
 use Rattle.number.proofs.Sizes.{within-size}
 use Rattle.quantity.specs.Limits.{wheelhouse}
 use Rattle.settings.proofs.HoldsLaws.{kept-inside}
-use Rattle.store.specs.Block.{unitOf}
-use Rattle.store.proofs.SettingsLaws.{pressure-size}
+use Rattle.block.specs.Words.{unitOf}
+use Rattle.message.proofs.Keep.{pressure-size}
 use Rattle.pressure.specs.Pressure.{barometerOf}
 use Rattle.pressure.proofs.SizeLaws.{scale-stored}
 use Rattle.pressure.proofs.AnswerLaws.{by-unit, none-there, worked, sea-limits, sea-limits-2, sea-outside, sea-given}
@@ -22,7 +22,7 @@ use Rattle.pressure.proofs.in_hectopascals.Reads as in-hectopascals-rea
 use Rattle.pressure.proofs.scale_correction.Reads as scale-correction-reads
 use Rattle.quantity.proofs.BarometerUnit.holds.Reads as BarometerUnit-holds-reads
 use Rattle.quantity.proofs.WheelhouseTemperature.holds.Reads as WheelhouseTemperature-holds-reads
-use Rattle.store.proofs.unit.Reads as unit-reads
+use Rattle.block.proofs.unit.Reads as unit-reads
 
 unit-requires : tie.Need-unit-requires
 unit-requires c κs = search needs

@@ -4,8 +4,8 @@ use native.Mathlib.Omega.{arith}
 use denote.Ref.{now}
 use lib.IntN.{natAbs}
 use borrow.Author.Tests.{not-true, not-false}
-use Rattle.store.specs.Block.{unitOf}
-use Rattle.store.proofs.SettingsLaws.{pressure-size}
+use Rattle.block.specs.Words.{unitOf}
+use Rattle.message.proofs.Keep.{pressure-size}
 use Rattle.pressure.specs.Pressure.{barometerOf}
 use Rattle.pressure.proofs.SizeLaws.{scale-stored}
 use Rattle.pressure.proofs.AnswerLaws.{by-unit, none-there, worked, station-limits, station-outside, station-given}
@@ -16,7 +16,7 @@ use Rattle.number.proofs.Number.plus.Reads as plus-reads
 use Rattle.pressure.proofs.in_hectopascals.Reads as in-hectopascals-reads
 use Rattle.pressure.proofs.scale_correction.Reads as scale-correction-reads
 use Rattle.quantity.proofs.BarometerUnit.holds.Reads as holds-reads
-use Rattle.store.proofs.unit.Reads as unit-reads
+use Rattle.block.proofs.unit.Reads as unit-reads
 
 unit-requires : tie.Need-unit-requires
 unit-requires c κs = search needs

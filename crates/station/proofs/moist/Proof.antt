@@ -5,7 +5,7 @@ use denote.Ref.{now}
 use lib.Dec.{lit≤}
 use lib.IntN.{pos, negℤ}
 use Rattle.number.proofs.Sizes.{within-size}
-use Rattle.store.specs.Block.{settingOf}
+use Rattle.block.specs.Words.{settingOf}
 use Rattle.pressure.specs.Pressure.{barometerOf, outside, stationPressure, pressureAs}
 use Rattle.pressure.specs.declared.WorkedPressure.{WorkedPressure}
 use Rattle.pressure.specs.declared.WorkedPressure.the-variants as pressed
@@ -21,7 +21,7 @@ use Rattle.station.proofs.moist.Tie as tie
 use Rattle.humidity.proofs.humidity.Reads as humidity-reads
 use Rattle.number.proofs.Number.keep.Reads as keep-reads
 use Rattle.pressure.proofs.station_pressure.Reads as station-pressure-reads
-use Rattle.store.proofs.psychrometer.Reads as psychrometer-reads
+use Rattle.block.proofs.psychrometer.Reads as psychrometer-reads
 
 -- the station pressure that was worked
 pressed-is : (c : tie.After-station-pressure) (w : WorkedPressure) → c .station-pressure .result ≡ w →

@@ -2,7 +2,8 @@
 use mathlib.Core.Path.{_≡_, sym, ap, _∙_}
 use mathlib.Core.Bool.{true}
 use denote.Ref.{now}
-use Rattle.store.specs.Block.{recallOf, recalled, recalledAs}
+use Rattle.store.specs.Block.{recallOf}
+use Rattle.cell.specs.Cells.{recalled, recalledAs}
 use Rattle.store.specs.History.{isPresent}
 use Rattle.message.specs.Receive.{entryOf}
 use Rattle.station.specs.Source.{first, second}

@@ -3,7 +3,7 @@ use mathlib.Core.Path.{sym}
 use denote.Ref.{now}
 use Rattle.message.specs.Receive.{entryOf}
 use Rattle.message.proofs.SingleAnswers.{entry-minute}
-use Rattle.store.proofs.BlockLaws.{span}
+use Rattle.block.proofs.BlockLaws.{span}
 use Rattle.store.proofs.HearLaws.{heard-at, refused-at}
 use borrow.Author.Needs.{needs}
 use Rattle.store.proofs.keep.Statement.{statement}

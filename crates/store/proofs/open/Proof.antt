@@ -1,9 +1,8 @@
 -- `open` meets its contract: what the check of the settings says decides. Assumes nothing.
-use mathlib.Core.Path.{_≡_, refl, sym, ap, _∙_}
+use mathlib.Core.Path.{sym, ap, _∙_}
 use denote.Ref.{now}
 use Rattle.settings.specs.Settings.{checkedAs}
-use Rattle.store.proofs.OpenLaws.{zeros, opens, opens-not}
-use Rattle.store.proofs.OpenedLaws.{few}
+use Rattle.store.proofs.OpenLaws.{opens, opens-not}
 use borrow.Author.Needs.{needs}
 use Rattle.store.proofs.open.Statement.{statement}
 use Rattle.store.proofs.open.Tie as tie
@@ -14,9 +13,8 @@ check-requires c κs = search needs
 enum-told : tie.Need-enum-told
 enum-told c = search needs
 
-write-settings-requires : tie.Need-write-settings-requires
-write-settings-requires c κs =
-    (refl, λ i. zeros 1588 i, few (c .before .before .before .before .before .args .settings) (sym (c .before .before .before .before .check .ensures) ∙ ap checkedAs (c .before .before .enum-told .given .1)))
+lay-requires : tie.Need-lay-requires
+lay-requires c κs = search needs
 
 enum-told-2 : tie.Need-enum-told-2
 enum-told-2 c = search needs
@@ -26,9 +24,9 @@ enum-told-3 c = search needs
 
 returns : tie.Need-returns
 returns c =
-    let start = c .before .before .before .before .before .before .args in
-    let good = sym (c .before .before .before .before .before .check .ensures) ∙ ap checkedAs (c .before .before .before .enum-told .given .1) in
-    (c .before .before .before .before .before .check .ensures, c .write-settings .ensures ∙ opens (now (start .store)) (start .settings) good)
+    let start = c .before .before .before .before .before .args in
+    let good = sym (c .before .before .before .before .check .ensures) ∙ ap checkedAs (c .before .before .enum-told .given .1) in
+    (c .before .before .before .before .check .ensures, c .lay .ensures ∙ opens (now (start .store)) (start .settings) good)
 
 returns-2 : tie.Need-returns-2
 returns-2 c =
@@ -46,7 +44,7 @@ open-spec =
     (tie.spec
     check-requires
     enum-told
-    write-settings-requires
+    lay-requires
     enum-told-2
     enum-told-3
     returns

@@ -1,14 +1,14 @@
 -- `recall` meets its contract: what the window keeps, read by the channel. Assumes nothing.
-use mathlib.Core.Path.{_≡_, sym, ap, _∙_}
+use mathlib.Core.Path.{sym, ap, _∙_}
 use mathlib.Core.List.{List}
 use Prim.Native.Nat.{ℕ}
 use denote.Ref.{now}
 use borrow.Author.Tests.{lt-ltb, le-ltb}
 use Rattle.quantity.specs.declared.BarometerUnit.{BarometerUnit}
 use Rattle.window.specs.Window.{kept}
-use Rattle.window.specs.declared.Found.{Found}
 use Rattle.window.specs.declared.Found.the-variants.{Cell}
-use Rattle.store.specs.Block.{unitOf, windowOf, recallIn, recallOf}
+use Rattle.block.specs.Words.{unitOf}
+use Rattle.store.specs.Block.{recallIn, recallOf}
 use borrow.Author.Needs.{needs}
 use Rattle.store.proofs.recall.Statement.{statement}
 use Rattle.store.proofs.recall.Tie as tie
@@ -47,7 +47,7 @@ unfolding recallOf
 returns-3 c =
     let start = c .before .before .before .before .before .before .before .before .args in
     rw (lt-ltb _ _ (c .before .before .before .before .before .before .before .if1 .left))
-    (c .reading-in .ensures (start .minute)
+    ((rw (lt-ltb _ _ (c .before .before .before .before .before .before .before .if1 .left)) at (c .reading-in .ensures (start .minute)))
     ∙ ap (λ (u : BarometerUnit). recallIn u (start .channel) (start .minute) (Cell (c .before .before .before .v .given .0 .0))) (c .before .unit .ensures)
     ∙ sym (ap (recallIn (unitOf (now (start .store))) (start .channel) (start .minute)) (sym (ap (λ (w : List ℕ). kept w (start .minute)) (c .before .before .before .before .before .before .window-of .ensures)) ∙ sym (c .before .before .before .before .before .find .ensures) ∙ c .before .before .before .v .given .1)))
 

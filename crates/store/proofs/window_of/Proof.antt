@@ -1,6 +1,6 @@
 -- `window_of` meets its contract. Assumes nothing.
 use mathlib.Core.Path.{refl}
-use Rattle.store.proofs.BlockLaws.{span}
+use Rattle.block.proofs.BlockLaws.{span}
 use borrow.Author.Needs.{needs}
 use Rattle.store.proofs.window_of.Statement.{statement}
 use Rattle.store.proofs.window_of.Tie as tie

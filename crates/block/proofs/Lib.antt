@@ -1,0 +1,6 @@
+pub mod BlockLaws
+pub mod ListedLaws
+pub mod OpenedLaws
+pub mod WrittenLaws
+pub mod SettingsLaws
+pub mod SingleAnswers

@@ -1,0 +1,78 @@
+-- A block that was just opened: it is set to the unit of its settings, and every word behind the settings is 0. Assumes nothing.
+use mathlib.Core.Path.{_≡_, refl, ap, _∙_}
+use mathlib.Core.Bool.{Bool, true, _&&_, cond}
+use Prim.Native.Nat.{ℕ, _+_, _-_, _≤_, _<_, min}
+use native.Mathlib.Nat.{zero-add}
+use native.Mathlib.Omega.{arith}
+use lib.Dec.{eqb, leb, lit<}
+use lib.ListN.{getD, drop, length}
+use lib.Seq.{getD-take, getD-drop}
+use borrow.Author.Tests.{leb-true, ne-eqb, le-ltb, not-false}
+use Rattle.number.specs.Refusal.{given}
+use Rattle.number.proofs.Sizes.{and-true}
+use Rattle.quantity.specs.declared.BarometerUnit.{BarometerUnit}
+use Rattle.quantity.specs.declared.BarometerUnit.the-variants.{Hectopascals, Millimetres}
+use Rattle.settings.specs.Settings.{every, pointHolds, pointAt, rises, certificateHolds, checked}
+use Rattle.settings.specs.declared.Settings.{Settings}
+use Rattle.settings.proofs.RefusalsInOrder.{settings-good}
+use Rattle.window.specs.Layout.{WINDOW}
+use Rattle.window.specs.Window.{next}
+use Rattle.cell.specs.Cells.{CHANNELS}
+use Rattle.block.specs.Layout.{POINTS, SETTINGS, WORDS, base}
+use Rattle.block.specs.Words.{unitWord, openedWord, opened, unitOf, windowOf}
+use Rattle.cell.proofs.ReceivedLaws.{fails}
+use Rattle.block.proofs.ListedLaws.{length-listed, getD-listed}
+
+unit-back : (u : BarometerUnit) → cond (eqb (unitWord u) 0) Hectopascals Millimetres ≡ u
+unit-back Hectopascals = refl
+unit-back Millimetres = refl
+
+pub opened-long : (g : Settings) → length (opened g) ≡ WORDS
+opened-long g = length-listed (openedWord g) 0 WORDS
+
+-- the word at a place
+pub word-at : (g : Settings) (k : ℕ) → k < WORDS → getD (opened g) k 0 ≡ openedWord g k
+word-at g k h = getD-listed (openedWord g) 0 WORDS k h ∙ ap (openedWord g) (zero-add k)
+
+pub opened-unit : (g : Settings) → unitOf (opened g) ≡ g .unit
+unfolding openedWord
+opened-unit g = rw (word-at g 0 (lit< tt)) (unit-back (g .unit))
+
+-- behind the settings an opened block is empty
+pub nothing-heard : (g : Settings) (i : ℕ) → SETTINGS ≤ i → openedWord g i ≡ 0
+unfolding openedWord
+nothing-heard g i h =
+    rw (
+      ne-eqb i 0 (λ q. omega arith),
+      ne-eqb i 1 (λ q. omega arith),
+      ne-eqb i 2 (λ q. omega arith),
+      ne-eqb i 3 (λ q. omega arith),
+      ne-eqb i 4 (λ q. omega arith),
+      ne-eqb i 5 (λ q. omega arith),
+      le-ltb i (POINTS + min (g .count) 16) (omega arith),
+    )
+
+pub opened-next : (g : Settings) (c : ℕ) → c < CHANNELS → next (windowOf c (opened g)) ≡ 0
+opened-next g c l =
+    getD-take WINDOW (drop (base c) (opened g)) 0 0 (lit< tt)
+    ∙ getD-drop (base c) (opened g) 0 0
+    ∙ word-at g (base c + 0) (omega arith)
+    ∙ nothing-heard g (base c + 0) (omega arith)
+
+second : (a b c d : Bool) → (a && b && c && d) ≡ true → b ≡ true
+second a b c d e = and-true a b (and-true (a && b) c (and-true (a && b && c) d e .0) .0) .1
+
+module _ (g : Settings) (good : checked g ≡ given tt) where
+  pub certificate : certificateHolds (g .unit) (g .count) (g .points) ≡ true
+  certificate =
+      not-false (certificateHolds (g .unit) (g .count) (g .points))
+      (fails _ (λ h. settings-good g .0 good 10 (1, (h, refl))))
+
+  pub few : g .count ≤ 16
+  unfolding certificateHolds
+  few =
+      leb-true (g .count) 16
+      (second (leb 2 (g .count)) (leb (g .count) 16)
+      (every (λ i. pointHolds (g .unit) (pointAt (g .points) i)) 0 (g .count))
+      (every (λ i. rises (pointAt (g .points) i) (pointAt (g .points) (i + 1))) 0 (g .count - 1))
+      certificate)

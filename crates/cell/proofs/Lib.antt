@@ -1,0 +1,3 @@
+pub mod ReceivedLaws
+pub mod CellLaws
+pub mod SingleAnswers

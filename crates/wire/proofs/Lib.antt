@@ -1,0 +1,4 @@
+pub mod Pattern
+pub mod DecodeLaws
+pub mod SingleAnswers
+pub mod RefusalsInOrder

@@ -1,0 +1,4 @@
+pub mod Bytes
+pub mod Finite
+pub mod Kinds
+pub mod Decode
