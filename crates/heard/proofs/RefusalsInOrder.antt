@@ -26,8 +26,8 @@ use Rattle.store.specs.Block.{unitOf, windowOf, isLater, hearing, hearTests, en
 use Rattle.store.specs.History.{nextOf, history, store-of}
 use Rattle.store.proofs.BlockLaws.{window-long}
 use Rattle.store.proofs.HistoryLaws.{store-remembers}
 use Rattle.station.specs.Questions.{Answers}
-use Rattle.station.specs.Feeds.{wouldKeep, messageTests}
+use Rattle.heard.specs.Feeds.{wouldKeep, messageTests}
 
 -- ---- questions
 

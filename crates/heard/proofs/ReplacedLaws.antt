@@ -17,15 +17,15 @@ use Rattle.window.specs.Layout.{MINUTES}
 use Rattle.window.proofs.AbsentLaws.{absents-alike}
 use Rattle.store.specs.Block.{Recall, absent, recalled}
 use Rattle.store.specs.History.{nextOf, grown, history, lookup, remembered, isPresent}
 use Rattle.station.specs.Source.{heard}
 use Rattle.station.specs.Told.{TellsPressure, TellsTendency, TellsWind, TellsHumidity}
-use Rattle.station.specs.Feeds.{pressureChannels, windChannels, humidityChannels, readsAt, readsTendency, Exchanged, Replaced}
+use Rattle.heard.specs.Feeds.{pressureChannels, windChannels, humidityChannels, readsAt, readsTendency, Exchanged, Replaced}
 use Rattle.station.specs.declared.PressureAnswer.{PressureAnswer}
 use Rattle.station.specs.declared.TendencyAnswer.{TendencyAnswer}
 use Rattle.station.specs.declared.WindAnswer.{WindAnswer}
 use Rattle.station.specs.declared.HumidityAnswer.{HumidityAnswer}
-use Rattle.station.proofs.SourceLaws.{tells-pressure, tells-tendency, tells-wind, tells-humidity}
-use Rattle.station.proofs.FedLaws.{itself}
+use Rattle.heard.proofs.SourceLaws.{tells-pressure, tells-tendency, tells-wind, tells-humidity}
+use Rattle.heard.proofs.FedLaws.{itself}
 
 never : {A : Type 0} → false ≡ true → A
 never e = let z : _≡_ {A = ℕ} 0 1 = cc in absurd (omega arith)

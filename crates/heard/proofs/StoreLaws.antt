@@ -28,16 +28,16 @@ use Rattle.store.proofs.StoreTheorems.{settings-stay-heard, absent-count}
 use Rattle.store.proofs.SettingsLaws.{settings-back, others}
 use Rattle.pressure.specs.Pressure.{Barometer, barometerIn, barometerOf, stationPressure}
 use Rattle.pressure.proofs.PressureTheorems.{Alike, alike-station, opened-alike, station-recorded}
 use Rattle.station.specs.Source.{Source, heard, held, first}
 use Rattle.station.specs.Questions.{Answers, test, tooLate, missingAt, outsideAt, stationAt, HumidityRule, humidityTests, foreign}
 use Rattle.station.specs.Told.{humidityAs, TellsPressure, TellsTendency, TellsWind, TellsHumidity}
 use Rattle.station.specs.declared.PressureAnswer.{PressureAnswer}
 use Rattle.station.specs.declared.TendencyAnswer.{TendencyAnswer}
 use Rattle.station.specs.declared.WindAnswer.{WindAnswer}
 use Rattle.station.specs.declared.HumidityAnswer.{HumidityAnswer}
 use Rattle.station.proofs.AnswerLaws.{carry, leave-out, lets-pass}
 use Rattle.station.proofs.KeptLaws.{first-inside}
-use Rattle.station.proofs.SourceLaws.{tells-pressure, tells-tendency, tells-wind, tells-humidity}
+use Rattle.heard.proofs.SourceLaws.{tells-pressure, tells-tendency, tells-wind, tells-humidity}
 
 -- ---- settings
 

@@ -15,14 +15,14 @@ use Rattle.store.specs.History.{history, remembered, isPresent, belongs, of-cha
 use Rattle.store.proofs.StoreTheorems.{own-messages}
 use Rattle.pressure.specs.Pressure.{Barometer}
 use Rattle.pressure.proofs.PressureTheorems.{Alike}
 use Rattle.station.specs.Source.{heard}
 use Rattle.station.specs.Told.{TellsPressure, TellsTendency, TellsWind, TellsHumidity}
-use Rattle.station.specs.Feeds.{pressureChannels, windChannels, humidityChannels, feeds, fed, isIn}
+use Rattle.heard.specs.Feeds.{pressureChannels, windChannels, humidityChannels, feeds, fed, isIn}
 use Rattle.station.specs.declared.PressureAnswer.{PressureAnswer}
 use Rattle.station.specs.declared.TendencyAnswer.{TendencyAnswer}
 use Rattle.station.specs.declared.WindAnswer.{WindAnswer}
 use Rattle.station.specs.declared.HumidityAnswer.{HumidityAnswer}
-use Rattle.station.proofs.SourceLaws.{tells-pressure, tells-tendency, tells-wind, tells-humidity}
+use Rattle.heard.proofs.SourceLaws.{tells-pressure, tells-tendency, tells-wind, tells-humidity}
 
 never : {A : Type 0} → false ≡ true → A
 never e = let z : _≡_ {A = ℕ} 0 1 = cc in absurd (omega arith)
