@@ -176,7 +176,7 @@ pub fn file_told(read: FileRead) -> FileTold
 
 // ---- writing and listing
 
-// What a write came to.
+// What a write came to, as a number with the index or the bytes.
 pub fn write_told(w: Written) -> WriteTold
     ensures { λ r. ⌜ r ≡ writeIn (writtenAs w) ⌝ }
 {
@@ -199,7 +199,7 @@ pub fn write_told(w: Written) -> WriteTold
     }
 }
 
-// How long a listing is: never 0; 0 where it did not fit.
+// How long a listing is, or 0 where it had no room.
 pub fn listed_told(l: Listed) -> usize
     ensures { λ r. ⌜ r ≡ listedBy l ⌝ }
 {

@@ -109,7 +109,7 @@ pub fn settings_of(s: StoreSettings) -> Settings
     }
 }
 
-// Document 01's number of what settings come to.
+// Document 01's number of refused settings, 0 for good ones.
 pub fn opening_number(c: Checked) -> u32
     ensures { λ r. ⌜ r ≡ numberOf (checkedAs c) ⌝ }
 {
@@ -120,7 +120,7 @@ pub fn opening_number(c: Checked) -> u32
     }
 }
 
-// Document 01's number of a refused message.
+// Document 01's number of a refused message, 0 for one that is heard.
 pub fn hearing_number(h: Hearing) -> u32
     ensures { λ r. ⌜ r ≡ numberOf (heardAs h) ⌝ }
 {
@@ -141,7 +141,7 @@ pub fn hearing_number(h: Hearing) -> u32
 
 // ---- questions
 
-// Why a question is refused.
+// Why a question is refused, as a number with channel and minute.
 fn refusal_of(r: QuestionRefusal) -> Refusal
     ensures { λ x. ⌜ x ≡ refusalIn (refusalOf r) ⌝ }
 {
@@ -184,7 +184,7 @@ fn refusal_of(r: QuestionRefusal) -> Refusal
     }
 }
 
-// The pressure of an answer, or its refusal.
+// The pressure of an answer, or why there is none.
 pub fn pressure_told(a: PressureAnswer) -> PressureTold
     ensures { λ r. ⌜ r ≡ pressureIn (pressureAs a) ⌝ }
 {
@@ -207,7 +207,7 @@ pub fn pressure_told(a: PressureAnswer) -> PressureTold
     }
 }
 
-// Its change and the absent minutes, or the refusal.
+// The change of pressure and the absent minutes, or why there are none.
 pub fn tendency_told(a: TendencyAnswer) -> TendencyTold
     ensures { λ r. ⌜ r ≡ tendencyIn (tendencyAs a) ⌝ }
 {
@@ -234,7 +234,7 @@ pub fn tendency_told(a: TendencyAnswer) -> TendencyTold
     }
 }
 
-// Speed and direction of the wind, or the refusal.
+// Speed and direction of the wind, or why there are none.
 pub fn wind_told(a: WindAnswer) -> WindTold
     ensures { λ r. ⌜ r ≡ windIn (windAs a) ⌝ }
 {
@@ -258,7 +258,7 @@ pub fn wind_told(a: WindAnswer) -> WindTold
     }
 }
 
-// The figures of humidity, or the refusal.
+// The figures of humidity, or why there are none.
 pub fn humidity_told(a: HumidityAnswer) -> HumidityTold
     ensures { λ r. ⌜ r ≡ humidityIn (humidityAs a) ⌝ }
 {
