@@ -134,6 +134,21 @@ use Rattle.command.proofs.parse.Reads as command-parse
 use Rattle.command.proofs.open_line.Reads as command-open-line
 use Rattle.command.proofs.write_line.Reads as command-write-line
 use Rattle.command.proofs.unhex.Reads as command-unhex
+use Rattle.told.proofs.SingleAnswers as told
+use Rattle.told.proofs.settings_of.Reads as told-settings-of
+use Rattle.told.proofs.opening_number.Reads as told-opening-number
+use Rattle.told.proofs.hearing_number.Reads as told-hearing-number
+use Rattle.told.proofs.pressure_told.Reads as told-pressure-told
+use Rattle.told.proofs.tendency_told.Reads as told-tendency-told
+use Rattle.told.proofs.wind_told.Reads as told-wind-told
+use Rattle.told.proofs.humidity_told.Reads as told-humidity-told
+use Rattle.filed.proofs.SingleAnswers as filed
+use Rattle.filed.proofs.looked_at.Reads as filed-looked-at
+use Rattle.filed.proofs.file_told.Reads as filed-file-told
+use Rattle.filed.proofs.write_told.Reads as filed-write-told
+use Rattle.filed.proofs.listed_told.Reads as filed-listed-told
+use Rattle.handed.proofs.SingleAnswers as handed
+use Rattle.handed.proofs.records_of.Reads as handed-records-of
 use Rattle.zhitomrak.proofs.SingleAnswers as zhitomrak
 use Rattle.zhitomrak.proofs.zhitomrak_open.Reads as zhitomrak-zhitomrak-open
 use Rattle.zhitomrak.proofs.zhitomrak_hear.Reads as zhitomrak-zhitomrak-hear
@@ -302,6 +317,21 @@ pub record OneAnswerEach : Type 0 where
   pub command-write-line-single : Single command-write-line.Post
   pub command-unhex-single : Single command-unhex.Post
   pub command-unhex-left : SingleLeft command-unhex.Post (λ κs s. s .1 .0 .now)
+  -- told
+  pub told-settings-of-single : Single told-settings-of.Post
+  pub told-opening-number-single : Single told-opening-number.Post
+  pub told-hearing-number-single : Single told-hearing-number.Post
+  pub told-pressure-told-single : Single told-pressure-told.Post
+  pub told-tendency-told-single : Single told-tendency-told.Post
+  pub told-wind-told-single : Single told-wind-told.Post
+  pub told-humidity-told-single : Single told-humidity-told.Post
+  -- filed
+  pub filed-looked-at-single : Single filed-looked-at.Post
+  pub filed-file-told-single : Single filed-file-told.Post
+  pub filed-write-told-single : Single filed-write-told.Post
+  pub filed-listed-told-single : Single filed-listed-told.Post
+  -- handed
+  pub handed-records-of-single : Single handed-records-of.Post
   -- zhitomrak
   pub zhitomrak-zhitomrak-open-single : Single zhitomrak-zhitomrak-open.Post
   pub zhitomrak-zhitomrak-open-left : SingleLeft zhitomrak-zhitomrak-open.Post (λ κs s. s .0 .now)
@@ -454,6 +484,18 @@ one-answer-each =
       command-write-line-single = command.single-write-line;
       command-unhex-single = command.single-unhex;
       command-unhex-left = command.single-unhex-bytes;
+      told-settings-of-single = told.single-settings-of;
+      told-opening-number-single = told.single-opening-number;
+      told-hearing-number-single = told.single-hearing-number;
+      told-pressure-told-single = told.single-pressure-told;
+      told-tendency-told-single = told.single-tendency-told;
+      told-wind-told-single = told.single-wind-told;
+      told-humidity-told-single = told.single-humidity-told;
+      filed-looked-at-single = filed.single-looked-at;
+      filed-file-told-single = filed.single-file-told;
+      filed-write-told-single = filed.single-write-told;
+      filed-listed-told-single = filed.single-listed-told;
+      handed-records-of-single = handed.single-records-of;
       zhitomrak-zhitomrak-open-single = zhitomrak.single-open;
       zhitomrak-zhitomrak-open-left = zhitomrak.single-open-left;
       zhitomrak-zhitomrak-hear-single = zhitomrak.single-hear;

@@ -17,13 +17,13 @@ use Rattle.store.proofs.StoreTheorems.{refused-changes-nothing, stays-absent-on
 use Rattle.station.specs.Source.{heard}
 use Rattle.station.specs.Questions.{Answers, pressureTests, PressureRule, tendencyTests, TendencyRule, windTests, WindRule, humidityTests, HumidityRule}
 use Rattle.station.specs.Told.{pressureAs, tendencyAs, windAs, humidityAs, TellsPressure, TellsTendency, TellsWind, TellsHumidity}
-use Rattle.station.specs.Feeds.{pressureChannels, windChannels, humidityChannels, fed, wouldKeep, messageTests}
+use Rattle.heard.specs.Feeds.{pressureChannels, windChannels, humidityChannels, fed, wouldKeep, messageTests}
 use Rattle.station.specs.declared.WindAnswer.the-variants as blew
 use Rattle.station.specs.declared.HumidityAnswer.the-variants as moist
-use Rattle.station.proofs.RefusalsInOrder.{question-refused, message-by-messages}
-use Rattle.station.proofs.StoreLaws.{pressure-by-messages, tendency-by-messages, wind-by-messages, humidity-by-messages}
-use Rattle.station.proofs.FedLaws.{pressure-fed, tendency-fed, wind-fed, humidity-fed, fed-again}
-use Rattle.station.proofs.ReplacedLaws as replaced
+use Rattle.heard.proofs.RefusalsInOrder.{question-refused, message-by-messages}
+use Rattle.heard.proofs.StoreLaws.{pressure-by-messages, tendency-by-messages, wind-by-messages, humidity-by-messages}
+use Rattle.heard.proofs.FedLaws.{pressure-fed, tendency-fed, wind-fed, humidity-fed, fed-again}
+use Rattle.heard.proofs.ReplacedLaws as replaced
 use Rattle.station.proofs.SingleAnswers.{one-pressure, one-tendency, one-wind, one-humidity-answer}
 use Rattle.watchfile.specs.Format.{writing, writeTests}
 use Rattle.watchfile.specs.declared.Record.{Record}

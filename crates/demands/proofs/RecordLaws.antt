@@ -26,7 +26,7 @@ use Rattle.humidity.specs.declared.Moisture.the-variants as moisture
 use Rattle.station.specs.Source.{Source, heard, first}
 use Rattle.station.specs.Questions.{Answers, Change, seaLevelAt, pressureTests, PressureRule, tendencyTests, TendencyRule, windTests, WindRule, humidityTests, HumidityRule, dryAt, wetAt, stationAt}
 use Rattle.station.proofs.AnswerLaws.{passed, ruled}
-use Rattle.station.proofs.StoreLaws.{heard-inside, never-foreign}
+use Rattle.heard.proofs.StoreLaws.{heard-inside, never-foreign}
 use Rattle.watchfile.specs.Rules.{minuteRight, rank}
 use Rattle.watchfile.specs.Format.{DewRule, kept, bodyRight, recordRight}
 use Rattle.watchfile.specs.declared.Body.{Body}

@@ -20,7 +20,7 @@ use Rattle.humidity.specs.declared.HumidityFigures.{HumidityFigures}
 use Rattle.station.specs.Source.{heard, held}
 use Rattle.station.specs.Questions.{Change, pressureTests, tendencyTests, windTests, humidityTests, foreign}
 use Rattle.station.specs.Told.{pressureAs, tendencyAs, humidityAs, windAs, TellsPressure, TellsTendency, TellsWind, TellsHumidity}
-use Rattle.station.specs.Feeds.{pressureChannels, windChannels, humidityChannels, fed, readsAt, readsTendency, Replaced, messageTests}
+use Rattle.heard.specs.Feeds.{pressureChannels, windChannels, humidityChannels, fed, readsAt, readsTendency, Replaced, messageTests}
 use Rattle.station.specs.declared.PressureAnswer.{PressureAnswer}
 use Rattle.station.specs.declared.TendencyAnswer.{TendencyAnswer}
 use Rattle.station.specs.declared.WindAnswer.{WindAnswer}

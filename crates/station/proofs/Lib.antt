@@ -3,9 +3,4 @@ pub mod AnswerLaws
 pub mod PressureLaws
 pub mod WindLaws
 pub mod HumidityLaws
-pub mod SourceLaws
-pub mod StoreLaws
-pub mod FedLaws
-pub mod ReplacedLaws
-pub mod RefusalsInOrder
 pub mod SingleAnswers

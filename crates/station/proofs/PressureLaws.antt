@@ -2,8 +2,11 @@
 use mathlib.Core.Path.{_≡_, refl, sym, ap, _∙_, subst}
 use mathlib.Core.Bool.{Bool, true, false, not, _||_, cond}
 use mathlib.Core.List.{List, [], _∷_}
+use mathlib.Core.Logic.{inl, inr}
 use Prim.Native.Nat.{ℕ, _-_, _≤_}
 use native.Mathlib.Omega.{arith}
+use types.Run.{OneOf}
+use denote.Enum.Declared.{tagOf}
 use lib.Dec.{lit≤, lit<}
 use lib.IntN.{ℤ, pos, negℤ, natAbs, _-ℤ_}
 use borrow.Author.Tests.{not-false}
@@ -18,9 +21,11 @@ use Rattle.pressure.specs.declared.WorkedPressure.{WorkedPressure}
 use Rattle.pressure.specs.declared.WorkedPressure.the-variants.{Given, OutsideLimits, OutsideCertificate}
 use Rattle.pressure.proofs.SizeLaws.{sea-level-stored}
 use Rattle.station.specs.Source.{Source, held, first}
-use Rattle.station.specs.Questions.{Answers, missingAt, outsideAt, seaLevelAt, Change, tendencyTests, TendencyRule}
+use Rattle.station.specs.Questions.{Answers, missingAt, outsideAt, seaLevelAt, Change, PressureRule, tendencyTests, TendencyRule}
 use Rattle.station.specs.Parts.{TellsAt}
+use Rattle.station.specs.declared.AtMinute.{AtMinute}
 use Rattle.station.specs.declared.AtMinute.the-variants.{NotKept, Outside, SeaLevel}
+use Rattle.station.proofs.AtMinute.{the-type}
 use Rattle.station.proofs.AnswerLaws.{code, pass, passed, ruled}
 use Rattle.station.proofs.KeptLaws.{first-inside}
 
@@ -93,6 +98,21 @@ module _ (S : Source) (m : ℕ) where
       let b = passed (missingAt S m 1) _ Rule x (a .1) in
       let c = passed (outsideAt S m) _ Rule x (b .1) in
       (record { pressure = not-false _ (a .0); warmth = not-false _ (b .0) }, c .0, ruled Rule x (c .1))
+
+  -- by its case: what is not missing is there, and what is there and no pressure is outside
+  pub at-there : (r : AtMinute) → OneOf (1 ∷ 2 ∷ []) (tagOf the-type r) → TellsAt S m r → There
+  at-there (NotKept c) (inl k) w = absurd (omega (arith, k))
+  at-there (NotKept c) (inr k) w = absurd (omega (arith, k))
+  at-there Outside k w = at-outside w .0
+  at-there (SeaLevel p) k w = at-given (PressureRule S m) (p .0 .v) w .0
+
+  pub at-no-pressure : (r : AtMinute) → OneOf (1 ∷ 2 ∷ []) (tagOf the-type r) → OneOf (0 ∷ 1 ∷ []) (tagOf the-type r) → TellsAt S m r
+      → outside (S .barometer) (first (S .recall 0 m)) ≡ true
+  at-no-pressure (NotKept c) (inl k) o w = absurd (omega (arith, k))
+  at-no-pressure (NotKept c) (inr k) o w = absurd (omega (arith, k))
+  at-no-pressure Outside k o w = at-outside w .1
+  at-no-pressure (SeaLevel p) k (inl o) w = absurd (omega (arith, o))
+  at-no-pressure (SeaLevel p) k (inr o) w = absurd (omega (arith, o))
 
   pub pass-there : {A : Type 0} (Rule : A → Type 0) (rest : List (Test Numbered)) (a : Answer Numbered A) → There
       → Answers rest Rule a → Answers (missingAt S m 0 ∷ missingAt S m 1 ∷ rest) Rule a

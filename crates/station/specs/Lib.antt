@@ -2,4 +2,3 @@ pub mod Source
 pub mod Questions
 pub mod Told
 pub mod Parts
-pub mod Feeds

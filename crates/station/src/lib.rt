@@ -7,9 +7,8 @@ ghost use lib.IntN.{natAbs};
 ghost use Rattle.message.specs.Receive.{entryOf};
 ghost use Rattle.settings.specs.Settings.{checked, checkedAs};
 ghost use Rattle.wind.specs.Answer.{withinLimits};
-ghost use Rattle.store.specs.Block.{openedBy, recallOf, Hears};
-ghost use Rattle.cell.specs.Cells.{recalled};
-ghost use Rattle.station.specs.Source.{held, first, second};
+ghost use Rattle.store.specs.Block.{openedBy, recallOf, recalled, Hears};
+ghost use Rattle.station.specs.Source.{held};
 ghost use Rattle.station.specs.Questions.{foreign};
 ghost use Rattle.station.specs.Told.{TellsPressure, TellsTendency, TellsWind, TellsHumidity};
 ghost use Rattle.station.specs.Parts.{Reads, PressureReady, Works, HumidityReady, Blowing, Moist, TellsAt};
@@ -104,45 +103,34 @@ pub fn hear(store: &mut Store, message: &[u8]) -> Hearing
 
 // ---- readings
 
-// A reading's first figure: a pressure, a temperature or a speed.
-fn first(r: Reading) -> Number
-    ensures { λ n. ⌜ ((t : ℕ) → n .v ≡ first (recalled (entryOf t r))) ⌝ }
+// The figures of a reading: a pressure or a temperature and 0, or a speed and a direction.
+fn figures_of(r: Reading) -> Figures
+    ensures { λ x. ⌜ ((t : ℕ) → Reads (recalled (entryOf t r)) x) ⌝ }
 {
+    let nought = Number { v: 0 };
     match r {
-        Reading::Hectopascals(p) => p.0,
+        Reading::Hectopascals(p) => {
+            let n = p.0;
+            Figures::Both(n, nought)
+        }
         Reading::Millimetres(p) => {
             let n = p.0;
-            n.number()
+            Figures::Both(n.number(), nought)
         }
         Reading::Wheelhouse(t) => {
             let n = t.0;
-            n.number()
+            Figures::Both(n.number(), nought)
         }
-        Reading::ApparentWind(v, _) => Number::whole(v.0),
-        Reading::ShipMotion(v, _) => Number::whole(v.0),
+        Reading::ApparentWind(v, d) => Figures::Both(Number::whole(v.0), Number::whole(d.0)),
+        Reading::ShipMotion(v, d) => Figures::Both(Number::whole(v.0), Number::whole(d.0)),
         Reading::DryBulb(t) => {
             let n = t.0;
-            n.number()
+            Figures::Both(n.number(), nought)
         }
         Reading::WetBulb(t) => {
             let n = t.0;
-            n.number()
+            Figures::Both(n.number(), nought)
         }
-    }
-}
-
-// Its second figure: a direction, or 0 where it has none.
-fn second(r: Reading) -> Number
-    ensures { λ n. ⌜ ((t : ℕ) → n .v ≡ second (recalled (entryOf t r))) ⌝ }
-{
-    match r {
-        Reading::Hectopascals(_) => Number { v: 0 },
-        Reading::Millimetres(_) => Number { v: 0 },
-        Reading::Wheelhouse(_) => Number { v: 0 },
-        Reading::ApparentWind(_, d) => Number::whole(d.0),
-        Reading::ShipMotion(_, d) => Number::whole(d.0),
-        Reading::DryBulb(_) => Number { v: 0 },
-        Reading::WetBulb(_) => Number { v: 0 },
     }
 }
 
@@ -152,7 +140,7 @@ fn read_at(store: &Store, channel: u32, minute: u32) -> Figures
 {
     match store::recall(store, channel, minute) {
         Recalled::Missing => Figures::NotThere,
-        Recalled::Kept(r) => Figures::Both(first(r), second(r)),
+        Recalled::Kept(r) => figures_of(r),
     }
 }
 
@@ -214,38 +202,24 @@ pub fn tendency(store: &Store, minute: u32) -> TendencyAnswer
     let before = minute - 180;
     let earlier = sea_level_at(store, before);
     let later = sea_level_at(store, minute);
-    match earlier {
-        AtMinute::NotKept(c) => {
-            TendencyAnswer::Refused(QuestionRefusal::MissingReading(c, Minute(before)))
-        }
-        AtMinute::Outside => match later {
-            AtMinute::NotKept(c) => {
-                TendencyAnswer::Refused(QuestionRefusal::MissingReading(c, Minute(minute)))
-            }
-            AtMinute::Outside => {
-                TendencyAnswer::Refused(QuestionRefusal::OutsideCertificate(Minute(before)))
-            }
-            AtMinute::SeaLevel(_) => {
-                TendencyAnswer::Refused(QuestionRefusal::OutsideCertificate(Minute(before)))
-            }
-        },
-        AtMinute::SeaLevel(p) => match later {
-            AtMinute::NotKept(c) => {
-                TendencyAnswer::Refused(QuestionRefusal::MissingReading(c, Minute(minute)))
-            }
-            AtMinute::Outside => {
-                TendencyAnswer::Refused(QuestionRefusal::OutsideCertificate(Minute(minute)))
-            }
-            AtMinute::SeaLevel(q) => {
-                let was = p.0;
-                let is = q.0;
-                TendencyAnswer::Given(
-                    Hectopascals(is.minus(was)),
-                    store::missing_minutes(store, 0, minute),
-                )
-            }
-        },
+    if let AtMinute::NotKept(c) = earlier {
+        return TendencyAnswer::Refused(QuestionRefusal::MissingReading(c, Minute(before)));
     }
+    if let AtMinute::NotKept(c) = later {
+        return TendencyAnswer::Refused(QuestionRefusal::MissingReading(c, Minute(minute)));
+    }
+    let AtMinute::SeaLevel(p) = earlier else {
+        return TendencyAnswer::Refused(QuestionRefusal::OutsideCertificate(Minute(before)));
+    };
+    let AtMinute::SeaLevel(q) = later else {
+        return TendencyAnswer::Refused(QuestionRefusal::OutsideCertificate(Minute(minute)));
+    };
+    let was = p.0;
+    let is = q.0;
+    TendencyAnswer::Given(
+        Hectopascals(is.minus(was)),
+        store::missing_minutes(store, 0, minute),
+    )
 }
 
 // ---- wind

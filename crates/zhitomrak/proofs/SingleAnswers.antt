@@ -12,7 +12,7 @@ use Rattle.station.specs.declared.TendencyAnswer.{TendencyAnswer}
 use Rattle.station.specs.declared.WindAnswer.{WindAnswer}
 use Rattle.station.specs.declared.HumidityAnswer.{HumidityAnswer}
 use Rattle.station.proofs.SingleAnswers.{one-pressure, one-tendency, one-wind, one-humidity-answer}
-use Rattle.zhitomrak.specs.Told.{pressureIn, tendencyIn, windIn, humidityIn}
+use Rattle.told.specs.Told.{pressureIn, tendencyIn, windIn, humidityIn}
 use Rattle.zhitomrak.proofs.zhitomrak_open.Reads as opening
 use Rattle.zhitomrak.proofs.zhitomrak_hear.Reads as hear
 use Rattle.zhitomrak.proofs.zhitomrak_pressure.Reads as pressure

@@ -1,6 +1,6 @@
 -- `tendency` meets its contract: the minute, then sea level pressure at both minutes, test by test. Assumes nothing.
 use mathlib.Core.Path.{_≡_, sym, ap, subst, _∙_}
-use mathlib.Core.Bool.{false}
+use mathlib.Core.Bool.{true, false}
 use mathlib.Core.List.{List, _∷_}
 use Prim.Native.Nat.{ℕ, _-_, _≤_}
 use native.Mathlib.Omega.{arith}
@@ -10,12 +10,12 @@ use borrow.Author.Tests.{not-true, not-false, lt-ltb, le-ltb}
 use Rattle.number.specs.Refusal.{Numbered, Test, Answer}
 use Rattle.pressure.specs.Pressure.{outside}
 use Rattle.station.specs.Source.{Source, held, first}
-use Rattle.station.specs.Questions.{Answers, tooLate, noThreeHours, seaLevelAt, Change, TendencyRule, PressureRule}
+use Rattle.station.specs.Questions.{Answers, tooLate, noThreeHours, missingAt, seaLevelAt, Change, TendencyRule, PressureRule}
 use Rattle.station.specs.Parts.{TellsAt}
 use Rattle.station.specs.declared.AtMinute.{AtMinute}
-use Rattle.station.specs.declared.AtMinute.the-variants.{NotKept, Outside, SeaLevel}
+use Rattle.station.specs.declared.AtMinute.the-variants.{NotKept, SeaLevel}
 use Rattle.station.proofs.AnswerLaws.{late, timely, pass, stop, end}
-use Rattle.station.proofs.PressureLaws.{There, at-missing, at-outside, at-given, pass-there, at-size, less}
+use Rattle.station.proofs.PressureLaws.{There, at-missing, at-given, at-there, at-no-pressure, pass-there, at-size, less}
 use borrow.Author.Needs.{needs}
 use Rattle.station.proofs.tendency.Statement.{statement}
 use Rattle.station.proofs.tendency.Tie as tie
@@ -39,39 +39,65 @@ front c rest a w =
     (pass _ _ _ _ (le-ltb (c .before .before .before .args .minute) 180 (c .if2 .left)) w)
 
 -- sea level pressure at both minutes, as it was found
-earlier-is : (c : tie.After-sea-level-at2) (r : AtMinute) → c .before .sea-level-at .result ≡ r → TellsAt (source (c .before .before)) (minute (c .before .before) - 180) r
-unfolding source minute
-earlier-is c r e =
-    let a = c .before .before .before .before .before .args in
-    subst (TellsAt (held (now (a .store))) (a .minute - 180)) e (c .before .sea-level-at .ensures)
+module _ (c : tie.After-sea-level-at2) where
+  abbrev S : Source
+  S = source (c .before .before)
 
-later-is : (c : tie.After-sea-level-at2) (r : AtMinute) → c .sea-level-at2 .result ≡ r → TellsAt (source (c .before .before)) (minute (c .before .before)) r
-unfolding source minute
-later-is c r e =
-    let a = c .before .before .before .before .before .args in
-    subst (TellsAt (held (now (a .store))) (a .minute)) e (c .sea-level-at2 .ensures)
+  abbrev m : ℕ
+  m = minute (c .before .before)
 
--- both pressures, where both are given
-module _ (c : tie.After-later3) where
-  at : tie.After-sea-level-at2
-  at = c .before .before .before .before .before
+  earlier-is : TellsAt S (m - 180) (c .before .sea-level-at .result)
+  unfolding source minute
+  earlier-is = c .before .sea-level-at .ensures
 
-  earlier-given : let S = source (at .before .before) in let m = minute (at .before .before) - 180 in
-      There S m × (outside (S .barometer) (first (S .recall 0 m)) ≡ false) × (c .before .before .before .earlier2 .given .0 .0 .0 .v ≡ seaLevelAt S m)
-  unfolding at
+  later-is : TellsAt S m (c .sea-level-at2 .result)
+  unfolding source minute
+  later-is = c .sea-level-at2 .ensures
+
+-- nothing is missing
+module _ (c : tie.At-match2-keys2) where
+  abbrev at : tie.After-sea-level-at2
+  at = c .before .before
+
+  earlier-there : There (S at) (m at - 180)
+  earlier-there = at-there (S at) (m at - 180) (at .before .sea-level-at .result) (c .before .match .keys2) (earlier-is at)
+
+  later-there : There (S at) (m at)
+  later-there = at-there (S at) (m at) (at .sea-level-at2 .result) (c .match2 .keys2) (later-is at)
+
+  -- so the certificate decides, the earlier minute first
+  certified : (rest : List (Test Numbered)) (a : Answer Numbered Change)
+      → Answers rest (TendencyRule (S at) (m at)) a
+      → Answers
+      (tooLate (m at) ∷ noThreeHours (m at)
+      ∷ missingAt (S at) (m at - 180) 0 ∷ missingAt (S at) (m at - 180) 1
+      ∷ missingAt (S at) (m at) 0 ∷ missingAt (S at) (m at) 1 ∷ rest)
+      (TendencyRule (S at) (m at)) a
+  certified rest a w =
+      front (at .before .before) _ _ (pass-there (S at) (m at - 180) _ _ _ earlier-there (pass-there (S at) (m at) _ _ _ later-there w))
+
+-- the earlier pressure is given, and the later
+module _ (c : tie.After-known-told3) where
+  abbrev found : tie.At-match2-keys2
+  found = c .before .before .before
+
+  earlier-given : let p = c .before .earlier2 .given in
+      There (S (at found)) (m (at found) - 180)
+      × (outside (S (at found) .barometer) (first (S (at found) .recall 0 (m (at found) - 180))) ≡ false)
+      × (p .0 .0 .0 .v ≡ seaLevelAt (S (at found)) (m (at found) - 180))
   earlier-given =
-      let S = source (at .before .before) in
-      let m = minute (at .before .before) - 180 in
-      let found = c .before .before .before .earlier2 .given in
-      at-given S m (PressureRule S m) (found .0 .0 .0 .v) (earlier-is at (SeaLevel (found .0 .0)) (found .1))
+      let p = c .before .earlier2 .given in
+      at-given (S (at found)) (m (at found) - 180) (PressureRule (S (at found)) (m (at found) - 180)) (p .0 .0 .0 .v)
+      (subst (TellsAt (S (at found)) (m (at found) - 180)) (p .1) (earlier-is (at found)))
 
-  later-given : let S = source (at .before .before) in let m = minute (at .before .before) in
-      There S m × (outside (S .barometer) (first (S .recall 0 m)) ≡ false) × (c .later3 .given .0 .0 .0 .v ≡ seaLevelAt S m)
-  unfolding at
-  later-given =
-      let S = source (at .before .before) in
-      let m = minute (at .before .before) in
-      at-given S m (PressureRule S m) (c .later3 .given .0 .0 .0 .v) (later-is at (SeaLevel (c .later3 .given .0 .0)) (c .later3 .given .1))
+later-given : (c : tie.After-known-told4) → let both = at (found (c .before .before .before)) in let q = c .before .later2 .given in
+    There (S both) (m both)
+    × (outside (S both .barometer) (first (S both .recall 0 (m both))) ≡ false)
+    × (q .0 .0 .0 .v ≡ seaLevelAt (S both) (m both))
+later-given c =
+    let both = at (found (c .before .before .before)) in
+    let q = c .before .later2 .given in
+    at-given (S both) (m both) (PressureRule (S both) (m both)) (q .0 .0 .0 .v) (subst (TellsAt (S both) (m both)) (q .1) (later-is both))
 
 holds-requires : tie.Need-holds-requires
 holds-requires c κs = search needs
@@ -96,120 +122,71 @@ sea-level-at-requires-2 c κs = search needs
 enum-known-earlier : tie.Need-enum-known-earlier
 enum-known-earlier c = search needs
 
-enum-told : tie.Need-enum-told
-enum-told c = search needs
-
-enum-known-later : tie.Need-enum-known-later
-enum-known-later c = search needs
-
-enum-told-2 : tie.Need-enum-told-2
-enum-told-2 c = search needs
-
-enum-told-3 : tie.Need-enum-told-3
-enum-told-3 c = search needs
-
-enum-known-earlier-2 : tie.Need-enum-known-earlier-2
-enum-known-earlier-2 c = search needs
-
-enum-known-later-2 : tie.Need-enum-known-later-2
-enum-known-later-2 c = search needs
-
-enum-told-4 : tie.Need-enum-told-4
-enum-told-4 c = search needs
-
-enum-known-later-3 : tie.Need-enum-known-later-3
-enum-known-later-3 c = search needs
-
-minus-requires : tie.Need-minus-requires
-unfolding source minute at
-minus-requires c κs =
-    let both = c .before .before .before in
-    let s = now (both .before .before .before .before .before .before .before .before .before .before .args .store) in
-    let m = both .before .before .before .before .before .before .before .before .before .before .args .minute in
-    let p = earlier-given both in
-    let q = later-given both in
-    omega (arith, ap natAbs (p .2), ap natAbs (q .2), at-size s (m - 180) (p .0), at-size s m (q .0))
-
-missing-minutes-requires : tie.Need-missing-minutes-requires
-missing-minutes-requires c κs = search needs
-
 returns-3 : tie.Need-returns-3
 unfolding source minute
 returns-3 c =
     let at = c .before .before .before in
-    let S = source (at .before .before) in
-    let m = minute (at .before .before) in
-    front (at .before .before) _ _ (at-missing S (m - 180) (TendencyRule S m) _ _ (earlier-is at (NotKept (c .before .earlier .given .0 .0)) (c .before .earlier .given .1)))
+    let p = c .before .earlier .given in
+    front (at .before .before) _ _
+    (at-missing (S at) (m at - 180) (TendencyRule (S at) (m at)) _ _ (subst (TellsAt (S at) (m at - 180)) (p .1) (earlier-is at)))
+
+enum-known-later : tie.Need-enum-known-later
+enum-known-later c = search needs
 
 returns-4 : tie.Need-returns-4
 unfolding source minute
 returns-4 c =
-    let told = c .before .before .before in
-    let at = told .before .before in
-    let S = source (at .before .before) in
-    let m = minute (at .before .before) in
-    let o = at-outside S (m - 180) (earlier-is at Outside (told .enum-told .given .1)) in
+    let at = c .before .before .before .before in
+    let q = c .before .later .given in
+    let there = at-there (S at) (m at - 180) (at .before .sea-level-at .result) (c .before .before .before .match .keys2) (earlier-is at) in
     front (at .before .before) _ _
-    (pass-there S (m - 180) _ _ _ (o .0) (at-missing S m (TendencyRule S m) _ _ (later-is at (NotKept (c .before .later .given .0 .0)) (c .before .later .given .1))))
+    (pass-there (S at) (m at - 180) _ _ _ there
+    (at-missing (S at) (m at) (TendencyRule (S at) (m at)) _ _ (subst (TellsAt (S at) (m at)) (q .1) (later-is at))))
+
+enum-known-earlier-2 : tie.Need-enum-known-earlier-2
+enum-known-earlier-2 c = search needs
 
 returns-5 : tie.Need-returns-5
 unfolding source minute
 returns-5 c =
-    let told = c .before .before in
-    let at = told .before .before in
-    let S = source (at .before .before) in
-    let m = minute (at .before .before) in
-    let o = at-outside S (m - 180) (earlier-is at Outside (told .enum-told .given .1)) in
-    let p = at-outside S m (later-is at Outside (c .enum-told2 .given .1)) in
-    front (at .before .before) _ _ (pass-there S (m - 180) _ _ _ (o .0) (pass-there S m _ _ _ (p .0) (stop _ _ _ (o .1))))
+    let both = at (c .before) in
+    certified (c .before) _ _
+    (stop _ _ _ (at-no-pressure (S both) (m both - 180) (both .before .sea-level-at .result) (c .before .before .match .keys2) (c .match3 .keys2) (earlier-is both)))
+
+enum-known-later-2 : tie.Need-enum-known-later-2
+enum-known-later-2 c = search needs
 
 returns-6 : tie.Need-returns-6
 unfolding source minute
 returns-6 c =
+    let there = found (c .before) in
+    let both = at there in
+    certified there _ _
+    (pass _ _ _ _ (earlier-given (c .before) .1)
+    (stop _ _ _ (at-no-pressure (S both) (m both) (both .sea-level-at2 .result) (there .match2 .keys2) (c .match4 .keys2) (later-is both))))
+
+minus-requires : tie.Need-minus-requires
+unfolding source minute
+minus-requires c κs =
     let told = c .before .before in
-    let at = told .before .before in
-    let S = source (at .before .before) in
-    let m = minute (at .before .before) in
-    let o = at-outside S (m - 180) (earlier-is at Outside (told .enum-told .given .1)) in
-    let p = at-given S m (PressureRule S m) _ (later-is at (SeaLevel _) (c .enum-told3 .given .1)) in
-    front (at .before .before) _ _ (pass-there S (m - 180) _ _ _ (o .0) (pass-there S m _ _ _ (p .0) (stop _ _ _ (o .1))))
+    let start = (at (found (told .before .before .before))) .before .before .before .before .before in
+    let s = now (start .args .store) in
+    let p = earlier-given (told .before .before .before) in
+    let q = later-given told in
+    omega (arith, ap natAbs (p .2), ap natAbs (q .2), at-size s (start .args .minute - 180) (p .0), at-size s (start .args .minute) (q .0))
+
+missing-minutes-requires : tie.Need-missing-minutes-requires
+missing-minutes-requires c κs = search needs
 
 returns-7 : tie.Need-returns-7
 unfolding source minute
 returns-7 c =
-    let told = c .before .before .before in
-    let at = told .before .before .before in
-    let S = source (at .before .before) in
-    let m = minute (at .before .before) in
-    let o = at-given S (m - 180) (PressureRule S (m - 180)) _ (earlier-is at (SeaLevel (told .before .earlier2 .given .0 .0)) (told .before .earlier2 .given .1)) in
-    front (at .before .before) _ _
-    (pass-there S (m - 180) _ _ _ (o .0) (at-missing S m (TendencyRule S m) _ _ (later-is at (NotKept (c .before .later2 .given .0 .0)) (c .before .later2 .given .1))))
-
-returns-8 : tie.Need-returns-8
-unfolding source minute
-returns-8 c =
-    let told = c .before .before in
-    let at = told .before .before .before in
-    let S = source (at .before .before) in
-    let m = minute (at .before .before) in
-    let o = at-given S (m - 180) (PressureRule S (m - 180)) _ (earlier-is at (SeaLevel (told .before .earlier2 .given .0 .0)) (told .before .earlier2 .given .1)) in
-    let p = at-outside S m (later-is at Outside (c .enum-told4 .given .1)) in
-    front (at .before .before) _ _
-    (pass-there S (m - 180) _ _ _ (o .0) (pass-there S m _ _ _ (p .0) (pass _ _ _ _ (o .1) (stop _ _ _ (p .1)))))
-
-returns-9 : tie.Need-returns-9
-unfolding source minute at
-returns-9 c =
-    let both = c .before .before .before .before .before in
-    let at = both .before .before .before .before .before in
-    let S = source (at .before .before) in
-    let m = minute (at .before .before) in
-    let p = earlier-given both in
-    let q = later-given both in
-    front (at .before .before) _ _
-    (pass-there S (m - 180) _ _ _ (p .0) (pass-there S m _ _ _ (q .0)
+    let told = c .before .before .before .before in
+    let p = earlier-given (told .before .before .before) in
+    let q = later-given told in
+    certified (found (told .before .before .before)) _ _
     (pass _ _ _ _ (p .1) (pass _ _ _ _ (q .1)
-    (end _ _ (record { change = c .before .minus .ensures .value ∙ less (q .2) (p .2); absent = c .missing-minutes .ensures }))))))
+    (end _ _ (record { change = c .before .minus .ensures .value ∙ less (q .2) (p .2); absent = c .missing-minutes .ensures }))))
 
 pub tendency-spec : {M : Type 1} → statement M
 tendency-spec =
@@ -221,20 +198,13 @@ tendency-spec =
     sea-level-at-requires
     sea-level-at-requires-2
     enum-known-earlier
-    enum-told
+    returns-3
     enum-known-later
-    enum-told-2
-    enum-told-3
+    returns-4
     enum-known-earlier-2
+    returns-5
     enum-known-later-2
-    enum-told-4
-    enum-known-later-3
+    returns-6
     minus-requires
     missing-minutes-requires
-    returns-3
-    returns-4
-    returns-5
-    returns-6
-    returns-7
-    returns-8
-    returns-9)
+    returns-7)

@@ -1,6 +1,6 @@
 -- `zhitomrak_hear` meets its contract: the station hears. Assumes nothing.
 use mathlib.Core.Path.{ap, _∙_}
-use Rattle.zhitomrak.specs.Told.{numberOf}
+use Rattle.told.specs.Told.{numberOf}
 use borrow.Author.Needs.{needs}
 use Rattle.zhitomrak.proofs.zhitomrak_hear.Statement.{statement}
 use Rattle.zhitomrak.proofs.zhitomrak_hear.Tie as tie

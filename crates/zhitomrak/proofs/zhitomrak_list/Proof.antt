@@ -7,7 +7,7 @@ use lib.ListN.{length}
 use Rattle.watchfile.specs.Format.{reading}
 use Rattle.listing.specs.Listing.{listingOf, TEXT}
 use Rattle.listing.specs.declared.Listed.the-variants.{Text, TooShort}
-use Rattle.zhitomrak.specs.Files.{listedBy}
+use Rattle.filed.specs.Files.{listedBy}
 use borrow.Author.Needs.{needs}
 use Rattle.zhitomrak.proofs.zhitomrak_list.Statement.{statement}
 use Rattle.zhitomrak.proofs.zhitomrak_list.Tie as tie

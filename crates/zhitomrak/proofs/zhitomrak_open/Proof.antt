@@ -3,7 +3,7 @@ use mathlib.Core.Path.{ap, _∙_}
 use borrow.Author.Tests.{lt-ltb, le-ltb}
 use Rattle.settings.specs.Settings.{checked}
 use Rattle.store.specs.Block.{openedBy}
-use Rattle.zhitomrak.specs.Told.{numberOf}
+use Rattle.told.specs.Told.{numberOf}
 use borrow.Author.Needs.{needs}
 use Rattle.zhitomrak.proofs.zhitomrak_open.Statement.{statement}
 use Rattle.zhitomrak.proofs.zhitomrak_open.Tie as tie

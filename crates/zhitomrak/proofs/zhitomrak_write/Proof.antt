@@ -4,8 +4,9 @@ use mathlib.Core.List.{map}
 use lib.ListN.{length}
 use Rattle.number.specs.Refusal.{Answer, Numbered}
 use Rattle.writer.specs.Write.{sized, leftBy}
-use Rattle.zhitomrak.specs.Files.{recordOf, writeIn}
-use Rattle.zhitomrak.proofs.RecordLaws.{writing-by}
+use Rattle.filed.specs.Files.{writeIn}
+use Rattle.handed.specs.Handed.{recordOf}
+use Rattle.handed.proofs.HandedLaws.{writing-by}
 use borrow.Author.Needs.{needs}
 use Rattle.zhitomrak.proofs.zhitomrak_write.Statement.{statement}
 use Rattle.zhitomrak.proofs.zhitomrak_write.Tie as tie
@@ -29,7 +30,7 @@ returns c =
     let of = write .before in
     let a = of .before .before .before .before .args in
     let it = write .write .ensures rule ruled in
-    let same = writing-by rule (of .records-of .result) (map recordOf (a .records .all)) (a .count) (length (a .buffer .now)) (of .records-of .ensures) in
+    let same = writing-by rule (of .records-of .result) (map recordOf (a .records .all)) (a .count) (length (a .buffer .now)) (of .records-of .ensures .first) in
     record {
       answer = c .write-told .ensures ∙ ap writeIn (it .answer ∙ ap sized same);
       bytes = it .bytes ∙ ap (leftBy (a .buffer .now)) same;

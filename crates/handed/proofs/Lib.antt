@@ -1,0 +1,2 @@
+pub mod HandedLaws
+pub mod SingleAnswers

@@ -1,0 +1,57 @@
+-- A record as C hands it over to be written.
+use mathlib.Core.Path.{_≡_}
+use mathlib.Core.Bool.{Bool, _&&_, cond}
+use mathlib.Core.List.{List, map}
+use Prim.Native.Nat.{ℕ, _-_}
+use lib.Dec.{eqb}
+use lib.IntN.{ℤ, pos, natAbs}
+use lib.ListN.{take, drop, replicate}
+use Rattle.number.specs.Whole.{within}
+use Rattle.number.specs.declared.Kept.{Kept}
+use Rattle.watchfile.specs.declared.Body.{Body}
+use Rattle.watchfile.specs.declared.Body.the-variants.{Pressure, Tendency, Wind, Humidity}
+use Rattle.watchfile.specs.declared.Record.{Record}
+use Rattle.reader.specs.Read.{blank}
+use Rattle.filed.specs.declared.FileRecord.{FileRecord}
+
+-- Numbers that fit two bytes, and one.
+abbrev pub half : ℤ → Bool
+half z = within (pos 0) (pos 65535) z
+
+abbrev pub octet : ℤ → Bool
+octet z = within (pos 0) (pos 255) z
+
+-- What stands for a body that does not fit its bytes, or is of no kind: a pressure that breaks the rules.
+abbrev pub misfit : Body
+misfit = Pressure 0
+
+abbrev pub pressureBody : ℤ → Body
+pressureBody p = cond (half p) (Pressure (natAbs p)) misfit
+
+abbrev pub tendencyBody : Kept → ℤ → Body
+tendencyBody change absent = cond (octet absent) (Tendency change (natAbs absent)) misfit
+
+abbrev pub windBody : ℤ → ℤ → Body
+windBody speed direction = cond (half speed && half direction) (Wind (natAbs speed) (natAbs direction)) misfit
+
+abbrev pub humidityBody : ℤ → ℤ → ℤ → ℤ → Kept → Body
+humidityBody e saturation deficit relative dew =
+    cond (half e && half saturation && half deficit && octet relative)
+    (Humidity (natAbs e) (natAbs saturation) (natAbs deficit) (natAbs relative) dew)
+    misfit
+
+abbrev pub bodyOf : FileRecord → Body
+bodyOf r =
+    cond (eqb (r .kind) 1) (pressureBody (r .first .v))
+    (cond (eqb (r .kind) 2) (tendencyBody (r .first) (r .second .v))
+    (cond (eqb (r .kind) 3) (windBody (r .first .v) (r .second .v))
+    (cond (eqb (r .kind) 4) (humidityBody (r .first .v) (r .second .v) (r .third .v) (r .fourth .v) (r .fifth))
+    misfit)))
+
+abbrev pub recordOf : FileRecord → Record
+recordOf r = record { minute = r .minute; body = bodyOf r }
+
+-- What is written of the records handed over: the first `count`, and blank ones behind them.
+pub record HandsOver (all : List FileRecord) (count : ℕ) (r : List Record) : Type 0 where
+  pub first : take count r ≡ take count (map recordOf all)
+  pub rest : drop count r ≡ replicate (48 - count) blank

@@ -1,0 +1,5 @@
+pub mod SourceLaws
+pub mod StoreLaws
+pub mod FedLaws
+pub mod ReplacedLaws
+pub mod RefusalsInOrder

@@ -1,0 +1,102 @@
+-- Demand 1 for questions and messages: refusal n is given exactly when its reason holds and no test before it does, with reasons by
+-- the messages heard. The one law of refusals at each list. Assumes nothing.
+use mathlib.Core.Path.{_≡_, refl, sym, ap, subst, _∙_}
+use mathlib.Core.Bool.{Bool, not, cond}
+use mathlib.Core.List.{List, [], _∷_, _++_}
+use mathlib.Core.Logic.{_↔_}
+use Prim.Native.Nat.{ℕ, _<_}
+use native.Mathlib.Omega.{arith}
+use lib.Dec.{leb, lit<}
+use lib.ListN.{length}
+use borrow.Author.Tests.{eq-eqb}
+use Rattle.number.specs.Refusal.{Numbered, Test, Answer, refused, given, answer, Holds, NoneBelow, First}
+use Rattle.number.proofs.RefusalLaws.{refused-then, then-refused, given-then, then-given, in-number-order}
+use Rattle.wire.specs.Bytes.{minute}
+use Rattle.wire.specs.Decode.{message}
+use Rattle.message.specs.Receive.{Entry, entry, tests}
+use Rattle.wire.specs.declared.Message.{Message}
+use Rattle.wire.specs.declared.Message.the-variants.{Barometer, Wheelhouse, ApparentWind, ShipMotion, DryBulb, WetBulb}
+use Rattle.quantity.specs.declared.BarometerUnit.{BarometerUnit}
+use Rattle.settings.specs.Settings.{checked}
+use Rattle.settings.specs.declared.Settings.{Settings}
+use Rattle.window.specs.Layout.{WINDOW}
+use Rattle.window.specs.Window.{takes, next}
+use Rattle.cell.specs.Cells.{CHANNELS}
+use Rattle.block.specs.Words.{unitOf, windowOf}
+use Rattle.store.specs.Block.{isLater, hearing, hearTests, entryOfBytes}
+use Rattle.store.specs.History.{nextOf, history, store-of}
+use Rattle.block.proofs.BlockLaws.{window-long}
+use Rattle.store.proofs.HistoryLaws.{store-remembers}
+use Rattle.station.specs.Questions.{Answers}
+use Rattle.heard.specs.Feeds.{wouldKeep, messageTests}
+
+-- ---- questions
+
+module _ {A : Type 0} (ts : List (Test Numbered)) (Rule : A → Type 0) where
+  -- A question is refused exactly when a reason holds and none before it.
+  pub question-refused : (a : Answer Numbered A) → Answers ts Rule a → (n : Numbered) → (a ≡ refused n) ↔ First ts n
+  unfolding Answers
+  question-refused (refused r) w n = (
+    λ e. refused-then tt ts n (w ∙ (let z : r ≡ n = cc in ap refused z)),
+    λ h. let e : _≡_ {A = Answer Numbered (Unit {0})} (refused r) (refused n) = sym w ∙ then-refused tt ts n (h .0) (h .1) (h .2) in let z : r ≡ n = cc in ap refused z,
+  )
+  question-refused (given x) w n = (
+    λ e. absurd (let z : _≡_ {A = ℕ} 0 1 = cc in omega arith),
+    λ h. let e : _≡_ {A = Answer Numbered (Unit {0})} (given tt) (refused n) = sym (w .0) ∙ then-refused tt ts n (h .0) (h .1) (h .2) in absurd (let z : _≡_ {A = ℕ} 0 1 = cc in omega arith),
+  )
+
+  -- It is answered, by its rule, exactly when no reason holds.
+  pub question-given : (a : Answer Numbered A) → Answers ts Rule a → ((x : A) × (a ≡ given x) × Rule x) ↔ ((n : Numbered) → Holds ts n → ⊥)
+  unfolding Answers
+  question-given (refused r) w = (
+    λ h. absurd (let e = h .1 in let z : _≡_ {A = ℕ} 0 1 = cc in omega arith),
+    λ f. let e : _≡_ {A = Answer Numbered (Unit {0})} (refused r) (given tt) = sym w ∙ then-given tt ts f in absurd (let z : _≡_ {A = ℕ} 0 1 = cc in omega arith),
+  )
+  question-given (given x) w = (λ h. given-then tt ts (w .0), λ f. (x, refl, w .1))
+
+-- ---- messages
+
+-- whatever the bytes, a message would be kept in one of the six channels
+entry-low : (u : BarometerUnit) (t : ℕ) (m : Message) → entry u t m .channel < CHANNELS
+entry-low u t (Barometer x) = lit< tt
+entry-low u t (Wheelhouse x) = lit< tt
+entry-low u t (ApparentWind x) = lit< tt
+entry-low u t (ShipMotion x) = lit< tt
+entry-low u t (DryBulb x) = lit< tt
+entry-low u t (WetBulb x) = lit< tt
+
+entry-minute : (u : BarometerUnit) (t : ℕ) (m : Message) → entry u t m .minute ≡ t
+entry-minute u t (Barometer x) = refl
+entry-minute u t (Wheelhouse x) = refl
+entry-minute u t (ApparentWind x) = refl
+entry-minute u t (ShipMotion x) = refl
+entry-minute u t (DryBulb x) = refl
+entry-minute u t (WetBulb x) = refl
+
+takes-is : (w : List ℕ) (t : ℕ) → length w ≡ WINDOW → takes w t ≡ leb (next w) t
+unfolding takes
+takes-is w t e = rw (eq-eqb (length w) WINDOW e)
+
+module _ (g : Settings) (good : checked g ≡ given tt) (M : List (List ℕ)) (m : List ℕ) where
+  block : List ℕ
+  block = store-of g M
+
+  later-is : (e : Entry) → e .channel < CHANNELS → isLater block e ≡ leb (nextOf (history (g .unit) (e .channel) M)) (e .minute)
+  unfolding block
+  later-is e l =
+      let r = store-remembers g good M in
+      takes-is (windowOf (e .channel) block) (e .minute) (window-long block (e .channel) (r .long) l)
+      ∙ ap (λ (n : ℕ). leb n (e .minute)) (r .newest (e .channel) l)
+
+  -- The store tests a message by what was heard before.
+  pub message-by-messages : hearing (store-of g M) m ≡ answer (messageTests g M m) (wouldKeep g m)
+  unfolding hearing block
+  message-by-messages =
+      let e = wouldKeep g m in
+      let low = entry-low (g .unit) (minute m) (message m) in
+      rw (store-remembers g good M .unit, later-is e low, entry-minute (g .unit) (minute m) (message m))
+
+  pub message-refused-exactly : (n : ℕ) → (hearing (store-of g M) m ≡ refused n) ↔ (Holds (messageTests g M m) n × NoneBelow (messageTests g M m) n)
+  message-refused-exactly n =
+      let law = in-number-order (wouldKeep g m) (messageTests g M m) tt n in
+      (λ e. law .0 (sym message-by-messages ∙ e), λ w. message-by-messages ∙ law .1 w)

@@ -1,0 +1,164 @@
+-- A store that was opened and then heard messages: its settings stay as they were opened with, and its block answers every
+-- question as the messages heard do. By what the block remembers of them. Assumes nothing.
+use mathlib.Core.Path.{_≡_, refl, sym, ap, _∙_}
+use mathlib.Core.Bool.{Bool, true, false, not, _&&_, cond}
+use mathlib.Core.List.{List, [], _∷_, _++_}
+use Prim.Native.Nat.{ℕ, _+_, _-_, _<_, min}
+use native.Mathlib.Omega.{arith}
+use lib.Dec.{eqb, ltb, lit<}
+use lib.IntN.{ℤ, pos}
+use lib.ListN.{getD, take, length}
+use lib.Seq.{getD-take}
+use borrow.Author.Tests.{ltb-true, not-false}
+use Rattle.number.specs.Refusal.{Numbered, Test, answer, given}
+use Rattle.number.proofs.Sizes.{and-true}
+use Rattle.quantity.specs.Limits.{inside, recordedPressure}
+use Rattle.quantity.specs.declared.BarometerUnit.{BarometerUnit}
+use Rattle.quantity.specs.declared.BarometerUnit.the-variants.{Hectopascals, Millimetres}
+use Rattle.settings.specs.Settings.{checked, othersHold, nowhere}
+use Rattle.settings.specs.Settings as settings
+use Rattle.settings.specs.declared.Settings.{Settings}
+use Rattle.settings.specs.declared.Point.{Point}
+use Rattle.block.specs.Layout.{SETTINGS, WORDS, POINTS}
+use Rattle.cell.specs.Cells.{CHANNELS}
+use Rattle.cell.specs.Cells.{unbiased, limitsOf}
+use Rattle.cell.specs.Cells.{Recall}
+use Rattle.block.specs.Words.{opened, unitOf, settingOf, pointIn, pointOf}
+use Rattle.store.specs.Block.{recallOf, absentOf}
+use Rattle.store.specs.History.{history, remembered, isPresent, Remembers, store-of}
+use Rattle.store.proofs.HistoryLaws.{store-remembers}
+use Rattle.store.proofs.StoreTheorems.{settings-stay-heard, absent-count}
+use Rattle.block.proofs.SettingsLaws.{settings-back, others}
+use Rattle.pressure.specs.Pressure.{Barometer, barometerIn, barometerOf, stationPressure}
+use Rattle.pressure.proofs.PressureTheorems.{Alike, alike-station, opened-alike, station-recorded}
+use Rattle.station.specs.Source.{Source, heard, held, first}
+use Rattle.station.specs.Questions.{Answers, test, tooLate, missingAt, outsideAt, stationAt, HumidityRule, humidityTests, foreign}
+use Rattle.station.specs.Told.{humidityAs, TellsPressure, TellsTendency, TellsWind, TellsHumidity}
+use Rattle.station.specs.declared.PressureAnswer.{PressureAnswer}
+use Rattle.station.specs.declared.TendencyAnswer.{TendencyAnswer}
+use Rattle.station.specs.declared.WindAnswer.{WindAnswer}
+use Rattle.station.specs.declared.HumidityAnswer.{HumidityAnswer}
+use Rattle.station.proofs.AnswerLaws.{carry, leave-out, lets-pass}
+use Rattle.station.proofs.KeptLaws.{first-inside}
+use Rattle.heard.proofs.SourceLaws.{tells-pressure, tells-tendency, tells-wind, tells-humidity}
+
+-- ---- settings
+
+-- two blocks with the same settings' words
+module _ (s t : List ℕ) (same : take SETTINGS s ≡ take SETTINGS t) where
+  word : (i : ℕ) → i < SETTINGS → getD s i 0 ≡ getD t i 0
+  word i l = sym (getD-take SETTINGS s i 0 l) ∙ ap (λ (w : List ℕ). getD w i 0) same ∙ getD-take SETTINGS t i 0 l
+
+  point : (i : ℕ) → pointOf s i ≡ pointOf t i
+  point i = go (ltb i 16) refl
+    where
+      go : (b : Bool) → ltb i 16 ≡ b → cond b (pointIn (getD s (POINTS + i) 0)) nowhere ≡ cond b (pointIn (getD t (POINTS + i) 0)) nowhere
+      go true h = ap pointIn (word (POINTS + i) (omega (arith, ltb-true i 16 h)))
+      go false h = refl
+
+  setting : (i : ℕ) → i < SETTINGS → settingOf s i ≡ settingOf t i
+  setting i l = ap unbiased (word i l)
+
+  barometers : Alike (barometerOf s) (barometerOf t)
+  barometers =
+      record {
+        unit = ap (λ (n : ℕ). cond (eqb n 0) Hectopascals Millimetres) (word 0 (lit< tt));
+        height = setting 1 (lit< tt);
+        difference = setting 2 (lit< tt);
+        coefficient = setting 3 (lit< tt);
+        points = ap (λ (n : ℕ). min n 16) (word 5 (lit< tt));
+        point = λ i l. point i;
+      }
+
+alike-on : {a b c : Barometer} → Alike a b → Alike b c → Alike a c
+alike-on {a} {b} {c} p q =
+    record {
+      unit = p .unit ∙ q .unit;
+      height = p .height ∙ q .height;
+      difference = p .difference ∙ q .difference;
+      coefficient = p .coefficient ∙ q .coefficient;
+      points = p .points ∙ q .points;
+      point = λ i l. p .point i (omega (arith, q .points)) ∙ q .point i l;
+    }
+
+module _ (g : Settings) (good : checked g ≡ given tt) where
+  settings-kept : (M : List (List ℕ)) → take SETTINGS (store-of g M) ≡ take SETTINGS (opened g)
+  settings-kept [] = refl
+  settings-kept (m ∷ M) = settings-stay-heard (store-of g M) m (store-remembers g good M .long) ∙ settings-kept M
+
+  -- ---- what the block holds is what was heard
+
+  module _ (M : List (List ℕ)) where
+    barometer-is : Alike (barometerOf (store-of g M)) (barometerIn g)
+    barometer-is = alike-on (barometers (store-of g M) (opened g) (settings-kept M)) (opened-alike g good)
+
+    psychrometer-is : settingOf (store-of g M) 4 ≡ g .psychrometer .0 .v
+    psychrometer-is = setting (store-of g M) (opened g) (settings-kept M) 4 (lit< tt) ∙ settings-back g good .psychrometer
+
+    kept-is : (m c : ℕ) → c < CHANNELS → held (store-of g M) .recall c m ≡ heard g M .recall c m
+    kept-is m c l = store-remembers g good M .cells c l m
+
+    missing-is : (m : ℕ) → held (store-of g M) .missing m ≡ heard g M .missing m
+    missing-is m = absent-count (store-of g M) (g .unit) M 0 m (store-remembers g good M) (lit< tt)
+
+    -- what was heard lies within its channel's limits
+    pub heard-inside : (m c : ℕ) → c < CHANNELS → isPresent (heard g M .recall c m) ≡ true → inside (limitsOf (g .unit) c) (first (heard g M .recall c m)) ≡ true
+    heard-inside m c l there =
+        let block = store-of g M in
+        let is = kept-is m c l in
+        ap (λ (u : BarometerUnit). inside (limitsOf u c) (first (heard g M .recall c m))) (sym (barometer-is .unit))
+        ∙ ap (λ (x : Recall). inside (limitsOf (unitOf block) c) (first x)) (sym is)
+        ∙ first-inside block c m l (ap isPresent is ∙ there)
+
+    -- 7 is no answer of such a store
+    pub never-foreign : (m : ℕ) → isPresent (heard g M .recall 0 m) ≡ true
+        → not (inside recordedPressure (stationAt (heard g M) m) && inside settings.psychrometer (g .psychrometer .0 .v)) ≡ false
+    unfolding othersHold
+    never-foreign m there =
+        let h = g .height .0 .v in
+        let d = g .difference .0 .v in
+        let k = g .coefficient .0 .v in
+        let a = g .psychrometer .0 .v in
+        let three = inside settings.height h && inside settings.difference d && inside settings.coefficient k in
+        let inside-a : inside settings.psychrometer a ≡ true = and-true three (inside settings.psychrometer a) (others g good) .1 in
+        rw (station-recorded g good (first (heard g M .recall 0 m)) (heard-inside m 0 (lit< tt) there), inside-a)
+
+    -- ---- the block answers as the messages heard do
+
+    module _ (m : ℕ) where
+      pub pressure-by-messages : (r : PressureAnswer) → TellsPressure (held (store-of g M)) m r → TellsPressure (heard g M) m r
+      pressure-by-messages = tells-pressure (held (store-of g M)) (heard g M) barometer-is m (kept-is m 0 (lit< tt)) (kept-is m 1 (lit< tt))
+
+      pub tendency-by-messages : (r : TendencyAnswer) → TellsTendency (held (store-of g M)) m r → TellsTendency (heard g M) m r
+      tendency-by-messages =
+          tells-tendency (held (store-of g M)) (heard g M) barometer-is m
+          (kept-is m 0 (lit< tt)) (kept-is m 1 (lit< tt)) (kept-is (m - 180) 0 (lit< tt)) (kept-is (m - 180) 1 (lit< tt)) (missing-is m)
+
+      pub wind-by-messages : (r : WindAnswer) → TellsWind (held (store-of g M)) m r → TellsWind (heard g M) m r
+      wind-by-messages = tells-wind (held (store-of g M)) (heard g M) m (kept-is m 2 (lit< tt)) (kept-is m 3 (lit< tt))
+
+      foreign-same : foreign (held (store-of g M)) m ≡ foreign (heard g M) m
+      foreign-same =
+          let S = held (store-of g M) in
+          let T = heard g M in
+          let p : stationAt S m ≡ stationAt T m =
+          ap (λ (x : Recall). stationPressure (S .barometer) (first x)) (kept-is m 0 (lit< tt))
+          ∙ alike-station (S .barometer) (T .barometer) barometer-is (first (T .recall 0 m)) in
+          rw (p, psychrometer-is)
+
+      -- the test that document 01 does not have never refuses
+      without-foreign : (r : HumidityAnswer) → TellsHumidity (foreign (heard g M) m) (heard g M) m r → TellsHumidity [] (heard g M) m r
+      without-foreign r w table tabled =
+          let S = heard g M in
+          carry (humidityTests (foreign S m) table S m) (humidityTests [] table S m) (HumidityRule S m) (HumidityRule S m) (humidityAs r)
+          (leave-out (tooLate m ∷ missingAt S m 0 ∷ missingAt S m 4 ∷ missingAt S m 5 ∷ outsideAt S m ∷ []) _ _
+          (λ e. never-foreign m (not-false _ (lets-pass (missingAt S m 0) _ (lets-pass (tooLate m) _ e .1) .0))))
+          (λ h x. x)
+          (w table tabled)
+
+      pub humidity-by-messages : (r : HumidityAnswer) → TellsHumidity (foreign (held (store-of g M)) m) (held (store-of g M)) m r → TellsHumidity [] (heard g M) m r
+      humidity-by-messages r w =
+          without-foreign r
+          (tells-humidity (held (store-of g M)) (heard g M) barometer-is m
+          (kept-is m 0 (lit< tt)) (kept-is m 4 (lit< tt)) (kept-is m 5 (lit< tt)) psychrometer-is
+          (foreign (held (store-of g M)) m) (foreign (heard g M) m) foreign-same r w)

@@ -1,0 +1,60 @@
+-- Answers as C sees them: document 01's number, what a refusal also returns, and figures; 0 for what there is not.
+use mathlib.Core.List.{List, [], _∷_}
+use Prim.Native.Nat.{ℕ}
+use lib.IntN.{ℤ, pos}
+use Rattle.number.specs.Refusal.{Numbered, Answer, refused, given}
+use Rattle.wind.specs.declared.TrueWind.{TrueWind}
+use Rattle.wind.specs.declared.TrueWind.the-variants.{Blows, OutsideLimits}
+use Rattle.humidity.specs.declared.HumidityFigures.{HumidityFigures}
+use Rattle.station.specs.Questions.{Change}
+use Rattle.told.specs.declared.Refusal.{Refusal}
+use Rattle.told.specs.declared.PressureTold.{PressureTold}
+use Rattle.told.specs.declared.TendencyTold.{TendencyTold}
+use Rattle.told.specs.declared.WindTold.{WindTold}
+use Rattle.told.specs.declared.HumidityTold.{HumidityTold}
+
+-- The refusal's number, or 0.
+abbrev pub numberOf : Answer ℕ (Unit {0}) → ℕ
+numberOf (refused n) = n
+numberOf (given a) = 0
+
+-- ---- questions
+
+-- 11 also returns "channel, minute", 12 "minute".
+abbrev pub channelIn : List ℕ → ℕ
+channelIn [] = 0
+channelIn (m ∷ []) = 0
+channelIn (c ∷ m ∷ more) = c
+
+abbrev pub minuteIn : List ℕ → ℕ
+minuteIn [] = 0
+minuteIn (m ∷ []) = m
+minuteIn (c ∷ m ∷ more) = m
+
+abbrev pub refusalIn : Numbered → Refusal
+refusalIn r = record { number = r .number; channel = channelIn (r .extra); minute = minuteIn (r .extra) }
+
+abbrev pub none : Refusal
+none = record { number = 0; channel = 0; minute = 0 }
+
+abbrev pub pressureIn : Answer Numbered ℤ → PressureTold
+pressureIn (refused r) = record { refusal = refusalIn r; pressure = record { v = pos 0 } }
+pressureIn (given p) = record { refusal = none; pressure = record { v = p } }
+
+abbrev pub tendencyIn : Answer Numbered Change → TendencyTold
+tendencyIn (refused r) = record { refusal = refusalIn r; change = record { v = pos 0 }; absent = 0 }
+tendencyIn (given t) = record { refusal = none; change = record { v = t .change }; absent = t .absent }
+
+-- A wind outside limits is none: no answer gives it.
+abbrev pub windFigures : TrueWind → WindTold
+windFigures (Blows v d) = record { refusal = none; speed = v .0; direction = d .0 }
+windFigures OutsideLimits = record { refusal = none; speed = 0; direction = 0 }
+
+abbrev pub windIn : Answer Numbered TrueWind → WindTold
+windIn (refused r) = record { refusal = refusalIn r; speed = 0; direction = 0 }
+windIn (given w) = windFigures w
+
+abbrev pub humidityIn : Answer Numbered HumidityFigures → HumidityTold
+humidityIn (refused r) = record { refusal = refusalIn r; e = 0; saturation = 0; deficit = 0; relative = 0; dew = record { v = pos 0 } }
+humidityIn (given h) =
+    record { refusal = none; e = h .e .0; saturation = h .saturation .0; deficit = h .deficit .0; relative = h .relative; dew = h .dew .0 }

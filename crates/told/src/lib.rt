@@ -1,0 +1,294 @@
+// Settings, openings, messages heard and answers as C sees them: document 01's number, what a refusal also returns, and figures.
+// A number of a refusal is document 01's; 0 says that nothing was refused.
+ghost use mathlib.Core.Path.{_≡_};
+ghost use Rattle.settings.specs.Settings.{checkedAs};
+ghost use Rattle.store.specs.Block.{heardAs};
+ghost use Rattle.station.specs.Told.{refusalOf, pressureAs, tendencyAs, windAs, humidityAs};
+ghost use Rattle.told.specs.Told.{numberOf, refusalIn, pressureIn, tendencyIn, windIn, humidityIn};
+ghost use Rattle.told.specs.Opening.{unitIn, settingsIn};
+use message::MessageRefusal;
+use number::Kept;
+use number::Number;
+use quantity::BarometerUnit;
+use settings::Checked;
+use settings::Height;
+use settings::POINTS;
+use settings::Point;
+use settings::PsychrometerCoefficient;
+use settings::SeaLevelDifference;
+use settings::Settings;
+use settings::TemperatureCoefficient;
+use station::HumidityAnswer;
+use station::PressureAnswer;
+use station::QuestionRefusal;
+use station::TendencyAnswer;
+use station::WindAnswer;
+use store::Hearing;
+
+// The settings of a store. The unit is 0 for hPa and 1 for mm Hg.
+#[repr(C)]
+pub struct StoreSettings {
+    pub unit: u32,
+    pub height: Height,
+    pub difference: SeaLevelDifference,
+    pub coefficient: TemperatureCoefficient,
+    pub psychrometer: PsychrometerCoefficient,
+    pub count: u32,
+    pub points: [Point; POINTS],
+}
+
+// Why a question is refused: the number, and the channel and the minute where it returns them.
+#[repr(C)]
+pub struct Refusal {
+    pub number: u32,
+    pub channel: u32,
+    pub minute: u32,
+}
+
+// Figures are 0 where the question is refused.
+#[repr(C)]
+pub struct PressureTold {
+    pub refusal: Refusal,
+    pub pressure: Number,
+}
+
+#[repr(C)]
+pub struct TendencyTold {
+    pub refusal: Refusal,
+    pub change: Number,
+    pub absent: u64,
+}
+
+#[repr(C)]
+pub struct WindTold {
+    pub refusal: Refusal,
+    pub speed: u32,
+    pub direction: u32,
+}
+
+#[repr(C)]
+pub struct HumidityTold {
+    pub refusal: Refusal,
+    pub e: u32,
+    pub saturation: u32,
+    pub deficit: u32,
+    pub relative: u32,
+    pub dew: Kept,
+}
+
+// ---- opening and hearing
+
+// The unit of a number.
+fn unit_of(n: u32) -> BarometerUnit
+    ensures { λ r. ⌜ r ≡ unitIn n ⌝ }
+{
+    if n == 0 {
+        return BarometerUnit::Hectopascals;
+    }
+    BarometerUnit::Millimetres
+}
+
+// The settings as the station takes them.
+pub fn settings_of(s: StoreSettings) -> Settings
+    ensures { λ r. ⌜ r ≡ settingsIn s ⌝ }
+{
+    let unit = unit_of(s.unit);
+    let height = s.height;
+    let difference = s.difference;
+    let coefficient = s.coefficient;
+    let psychrometer = s.psychrometer;
+    let points = s.points;
+    Settings {
+        unit,
+        height,
+        difference,
+        coefficient,
+        psychrometer,
+        count: s.count,
+        points,
+    }
+}
+
+// Document 01's number of refused settings, 0 for good ones.
+pub fn opening_number(c: Checked) -> u32
+    ensures { λ r. ⌜ r ≡ numberOf (checkedAs c) ⌝ }
+{
+    match c {
+        Checked::Good => 0,
+        Checked::OutsideLimits => 9,
+        Checked::CertificateBroken => 10,
+    }
+}
+
+// Document 01's number of a refused message, 0 for one that is heard.
+pub fn hearing_number(h: Hearing) -> u32
+    ensures { λ r. ⌜ r ≡ numberOf (heardAs h) ⌝ }
+{
+    match h {
+        Hearing::Heard => 0,
+        Hearing::Refused(r) => match r {
+            MessageRefusal::NotSixteenBytes => 1,
+            MessageRefusal::NoSuchChannel => 2,
+            MessageRefusal::ByteNotZero => 3,
+            MessageRefusal::WetBulbNotWater => 4,
+            MessageRefusal::MinuteTooLate => 5,
+            MessageRefusal::NotFinite => 6,
+            MessageRefusal::OutsideLimits => 7,
+        },
+        Hearing::NotLater => 8,
+    }
+}
+
+// ---- questions
+
+// Why a question is refused, as a number with channel and minute.
+fn refusal_of(r: QuestionRefusal) -> Refusal
+    ensures { λ x. ⌜ x ≡ refusalIn (refusalOf r) ⌝ }
+{
+    match r {
+        QuestionRefusal::MinuteTooLate => Refusal {
+            number: 5,
+            channel: 0,
+            minute: 0,
+        },
+        QuestionRefusal::OutsideLimits => Refusal {
+            number: 7,
+            channel: 0,
+            minute: 0,
+        },
+        QuestionRefusal::MissingReading(c, m) => Refusal {
+            number: 11,
+            channel: c,
+            minute: m.0,
+        },
+        QuestionRefusal::OutsideCertificate(m) => Refusal {
+            number: 12,
+            channel: 0,
+            minute: m.0,
+        },
+        QuestionRefusal::WetAboveDry => Refusal {
+            number: 13,
+            channel: 0,
+            minute: 0,
+        },
+        QuestionRefusal::NoThreeHours => Refusal {
+            number: 14,
+            channel: 0,
+            minute: 0,
+        },
+        QuestionRefusal::TooDry => Refusal {
+            number: 15,
+            channel: 0,
+            minute: 0,
+        },
+    }
+}
+
+// The pressure of an answer, or why there is none.
+pub fn pressure_told(a: PressureAnswer) -> PressureTold
+    ensures { λ r. ⌜ r ≡ pressureIn (pressureAs a) ⌝ }
+{
+    match a {
+        PressureAnswer::Given(p) => {
+            let pressure = p.0;
+            PressureTold {
+                refusal: Refusal {
+                    number: 0,
+                    channel: 0,
+                    minute: 0,
+                },
+                pressure,
+            }
+        }
+        PressureAnswer::Refused(r) => PressureTold {
+            refusal: refusal_of(r),
+            pressure: Number { v: 0 },
+        },
+    }
+}
+
+// The change of pressure and the absent minutes, or why there are none.
+pub fn tendency_told(a: TendencyAnswer) -> TendencyTold
+    ensures { λ r. ⌜ r ≡ tendencyIn (tendencyAs a) ⌝ }
+{
+    match a {
+        TendencyAnswer::Given(c, absent) => {
+            let change = c.0;
+            TendencyTold {
+                refusal: Refusal {
+                    number: 0,
+                    channel: 0,
+                    minute: 0,
+                },
+                change,
+                absent,
+            }
+        }
+        TendencyAnswer::Refused(r) => {
+            TendencyTold {
+                refusal: refusal_of(r),
+                change: Number { v: 0 },
+                absent: 0,
+            }
+        }
+    }
+}
+
+// Speed and direction of the wind, or why there are none.
+pub fn wind_told(a: WindAnswer) -> WindTold
+    ensures { λ r. ⌜ r ≡ windIn (windAs a) ⌝ }
+{
+    match a {
+        WindAnswer::Given(v, d) => {
+            WindTold {
+                refusal: Refusal {
+                    number: 0,
+                    channel: 0,
+                    minute: 0,
+                },
+                speed: v.0,
+                direction: d.0,
+            }
+        }
+        WindAnswer::Refused(r) => WindTold {
+            refusal: refusal_of(r),
+            speed: 0,
+            direction: 0,
+        },
+    }
+}
+
+// The figures of humidity, or why there are none.
+pub fn humidity_told(a: HumidityAnswer) -> HumidityTold
+    ensures { λ r. ⌜ r ≡ humidityIn (humidityAs a) ⌝ }
+{
+    match a {
+        HumidityAnswer::Given(h) => {
+            let e = h.e;
+            let saturation = h.saturation;
+            let deficit = h.deficit;
+            let t = h.dew;
+            let dew = t.0;
+            HumidityTold {
+                refusal: Refusal {
+                    number: 0,
+                    channel: 0,
+                    minute: 0,
+                },
+                e: e.0,
+                saturation: saturation.0,
+                deficit: deficit.0,
+                relative: h.relative,
+                dew,
+            }
+        }
+        HumidityAnswer::Refused(r) => HumidityTold {
+            refusal: refusal_of(r),
+            e: 0,
+            saturation: 0,
+            deficit: 0,
+            relative: 0,
+            dew: Kept { v: 0 },
+        },
+    }
+}
