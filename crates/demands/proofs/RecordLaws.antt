@@ -31,7 +31,7 @@ use Rattle.watchfile.specs.Rules.{minuteRight, rank}
 use Rattle.watchfile.specs.Format.{DewRule, kept, bodyRight, recordRight}
 use Rattle.watchfile.specs.declared.Body.{Body}
 use Rattle.watchfile.specs.declared.Body.the-variants.{Pressure, Tendency}
-use Rattle.demands.specs.Records.{pressureRecord, tendencyRecord, windRecord, humidityRecord}
+use Rattle.desk.specs.Records.{pressureRecord, tendencyRecord, windRecord, humidityRecord}
 use Rattle.demands.proofs.RecordedFigures.{pressure-taken, tendency-taken, wind-taken, humidity-taken}
 
 both : {a b : Bool} → a ≡ true → b ≡ true → (a && b) ≡ true

@@ -1,0 +1,5 @@
+pub mod CountLaws
+pub mod EntryLaws
+pub mod InsertLaws
+pub mod PlaceLaws
+pub mod SingleAnswers
