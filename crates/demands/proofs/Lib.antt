@@ -1,4 +1,5 @@
 pub mod RecordedFigures
 pub mod RecordLaws
+pub mod EnteredAnswers
 pub mod Proved
 pub mod OneAnswerEach

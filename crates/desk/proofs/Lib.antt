@@ -3,3 +3,5 @@ pub mod EntryLaws
 pub mod InsertLaws
 pub mod PlaceLaws
 pub mod SingleAnswers
+pub mod FitTheorems
+pub mod PlaceTheorems
