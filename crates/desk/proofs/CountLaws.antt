@@ -1,14 +1,15 @@
 -- Messages cut from a text, and what hearing one more of them does to the block and to the counts: what is left to be heard from here
 -- comes to the same as what was to be heard at the start. Assumes nothing.
 use mathlib.Core.Path.{_≡_, refl, sym, ap, _∙_}
+use mathlib.Core.Bool.{Bool, true, false, cond}
 use mathlib.Core.List.{List, [], _∷_, _++_}
-use mathlib.Core.Logic.{_⊎_, inl, inr, ⊎-elim}
 use Prim.Native.Nat.{ℕ, zero, suc, _+_, _-_, _/_, _^_, _≤_, _<_, min}
 use native.Mathlib.Omega.{arith}
 use native.Mathlib.Decide.{decLt}
-use lib.Dec.{lit<}
+use lib.Dec.{eqb, lit<}
 use lib.ListN.{length, getD, take, drop, set, length-drop, length-append, drop-of-length-le}
-use lib.Seq.{drop-drop, take-at, drop-at, take-all}
+use lib.Seq.{drop-drop, take-at, drop-at, take-all, lt-length-set, getD-set-same, getD-set-other}
+use borrow.Author.Tests.{eqb-true, eqb-false}
 use Rattle.number.specs.Refusal.{Answer, refused, given}
 use Rattle.message.specs.declared.MessageRefusal.{MessageRefusal}
 use Rattle.message.specs.declared.MessageRefusal.the-variants.{NotSixteenBytes, NoSuchChannel, ByteNotZero, WetBulbNotWater, MinuteTooLate, NotFinite, OutsideLimits}
@@ -115,6 +116,44 @@ heard-none s = refl
 pub counted-none : (s counts : List ℕ) → countedAll s [] counts ≡ counts
 unfolding countedAll
 counted-none s counts = refl
+
+-- ---- what the counts say
+
+-- How many messages came to a number, each heard by the block that those before it left.
+unfoldable pub howMany : ℕ → List ℕ → List (List ℕ) → ℕ
+howMany n s [] = 0
+howMany n s (m ∷ M) = cond (eqb n (numberIn (hearing s m))) 1 0 + howMany n (heardBy s m) M
+
+one-counted : (n k : ℕ) (counts : List ℕ) → n < length counts → getD counts n 0 + cond (eqb n k) 1 0 < 2 ^ 64
+    → getD (oneMore counts k) n 0 ≡ getD counts n 0 + cond (eqb n k) 1 0
+unfolding oneMore
+one-counted n k counts inside room = go (eqb n k) refl room
+  where
+    go : (b : Bool) → eqb n k ≡ b → getD counts n 0 + cond b 1 0 < 2 ^ 64 → getD (oneMore counts k) n 0 ≡ getD counts n 0 + cond b 1 0
+    go true e room =
+        let same : k ≡ n = sym (eqb-true n k e) in
+        let fits : min (getD counts n 0 + 1) (2 ^ 64 - 1) ≡ getD counts n 0 + 1 = omega arith in
+        ap (λ (j : ℕ). getD (set counts j (min (getD counts j 0 + 1) (2 ^ 64 - 1))) n 0) same
+        ∙ getD-set-same counts n (min (getD counts n 0 + 1) (2 ^ 64 - 1)) 0 inside
+        ∙ fits
+    go false e room =
+        getD-set-other counts k n (min (getD counts k 0 + 1) (2 ^ 64 - 1)) 0 (eqb-false n k e)
+        ∙ (omega arith)
+
+still-inside : (n k : ℕ) (counts : List ℕ) → n < length counts → n < length (oneMore counts k)
+unfolding oneMore
+still-inside n k counts h = lt-length-set counts k (min (getD counts k 0 + 1) (2 ^ 64 - 1)) h
+
+-- EACH COUNT GROWS BY THE NUMBER OF MESSAGES THAT CAME TO IT, as long as it is below 2 to the 64.
+pub counts-added : (n : ℕ) (s : List ℕ) (M : List (List ℕ)) (counts : List ℕ) → n < length counts → getD counts n 0 + howMany n s M < 2 ^ 64
+    → getD (countedAll s M counts) n 0 ≡ getD counts n 0 + howMany n s M
+unfolding countedAll howMany
+counts-added n s [] counts inside room = omega arith
+counts-added n s (m ∷ M) counts inside room =
+    let k = numberIn (hearing s m) in
+    let one = one-counted n k counts inside (omega arith) in
+    let long : n < length (oneMore counts k) = still-inside n k counts inside in
+    counts-added n (heardBy s m) M (oneMore counts k) long (omega arith) ∙ (omega arith)
 
 -- ---- a station
 
