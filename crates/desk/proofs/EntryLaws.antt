@@ -22,11 +22,9 @@ use Rattle.station.specs.declared.WindAnswer.the-variants as wind
 use Rattle.station.specs.declared.HumidityAnswer.{HumidityAnswer}
 use Rattle.station.specs.declared.HumidityAnswer.the-variants as humidity
 use Rattle.watchfile.specs.declared.Record.{Record}
-use Rattle.watchfile.specs.declared.Body.{Body}
 use Rattle.watchfile.specs.declared.Body.the-variants.{Pressure, Tendency}
 use Rattle.desk.specs.Records.{pressureRecord, tendencyRecord, windRecord, humidityRecord}
 use Rattle.desk.specs.Entries.{fits16, fitsSigned, fits8, fitsPressure, entered, pressureEntry, tendencyEntry, windEntry, humidityEntry}
-use Rattle.desk.specs.declared.Entry.{Entry}
 use Rattle.desk.specs.declared.Entry.the-variants as entry
 
 -- ---- a record, or none
@@ -37,7 +35,7 @@ none b r h = rw h
 some : (b : Bool) (r : Record) → b ≡ true → entry.Record r ≡ entered b r
 some b r h = rw h
 
-both : {a b : Bool} → a ≡ true → b ≡ true → (a && b) ≡ true
+pub both : {a b : Bool} → a ≡ true → b ≡ true → (a && b) ≡ true
 both p q = rw (p, q)
 
 -- ---- single fields

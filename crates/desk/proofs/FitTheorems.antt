@@ -1,13 +1,13 @@
 -- A record that may stand in a watch file has figures that fit its fields: an answer whose record is right is entered as that record.
 -- Assumes nothing.
-use mathlib.Core.Path.{_≡_, refl, sym, ap, _∙_, subst}
+use mathlib.Core.Path.{_≡_, refl, sym, subst}
 use mathlib.Core.Bool.{Bool, true, false, _&&_, cond}
-use Prim.Native.Nat.{ℕ, zero, suc, _+_, _-_, _*_, _/_, _≤_, _<_}
+use Prim.Native.Nat.{ℕ, _+_, _-_, _*_, _/_, _≤_, _<_}
 use native.Mathlib.Omega.{arith}
 use native.Mathlib.Nat.{div-lt-iff-lt-mul}
 use lib.Dec.{leb, ltb, eqb}
 use lib.IntN.{ℤ, pos, negsuc, negℤ, natAbs}
-use borrow.Author.Tests.{le-leb, leb-true, ltb-true, eqb-true}
+use borrow.Author.Tests.{le-leb, leb-true, eqb-true}
 use Rattle.number.specs.Round.{nearest}
 use Rattle.number.specs.Whole.{within}
 use Rattle.number.proofs.Sizes.{and-true, within-size, natural}
@@ -27,10 +27,7 @@ use Rattle.writer.proofs.RightLaws.{change-fits, dew-fits}
 use Rattle.desk.specs.Records.{pressureRecord, tendencyRecord, windRecord, humidityRecord}
 use Rattle.desk.specs.Entries.{pressureEntry, tendencyEntry, windEntry, humidityEntry}
 use Rattle.desk.specs.declared.Entry.the-variants as entry
-use Rattle.desk.proofs.EntryLaws.{pressure-some, tendency-some, wind-some, humidity-some}
-
-both : {a b : Bool} → a ≡ true → b ≡ true → (a && b) ≡ true
-both p q = rw (p, q)
+use Rattle.desk.proofs.EntryLaws.{both, pressure-some, tendency-some, wind-some, humidity-some}
 
 in-word : (n : ℕ) (z : ℤ) → pos n ≡ z → n ≤ 65535 → within (pos 0) (pos 65535) z ≡ true
 in-word n z e h = subst (λ (x : ℤ). within (pos 0) (pos 65535) x ≡ true) e (both (le-leb 0 n (omega arith)) (le-leb n 65535 h))

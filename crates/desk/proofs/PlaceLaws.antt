@@ -2,7 +2,7 @@
 use mathlib.Core.Path.{_≡_, refl, sym, ap, _∙_, subst}
 use mathlib.Core.Bool.{Bool, true, false, not, cond}
 use mathlib.Core.List.{List, [], _∷_, _++_}
-use Prim.Native.Nat.{ℕ, zero, suc, _+_, _-_, _≤_, _<_, min}
+use Prim.Native.Nat.{ℕ, suc, _+_, _-_, _≤_, _<_, min}
 use native.Mathlib.Omega.{arith}
 use native.Mathlib.Decide.{decLt}
 use lib.IntN.{ℤ}
@@ -11,18 +11,17 @@ use lib.ListN.{length, take, set, getD, replicate, length-take, length-set, List
 use lib.Seq.{getD-take, take-all, take-take, take-suc, take-set-lt, take-at}
 use Rattle.number.specs.Refusal.{Test, Answer, refused, given, answer, Numbered, numbered}
 use Rattle.watchfile.specs.Bytes.{AreBytes}
-use Rattle.watchfile.specs.Format.{DewRule, recordRight, recordTests, rankOf, fileOf, reading, writing}
+use Rattle.watchfile.specs.Format.{recordRight, recordTests, rankOf, fileOf, reading, writing}
 use Rattle.watchfile.specs.declared.Record.{Record}
-use Rattle.reader.specs.Read.{verdictAs, counted, places, blank, HandsBack}
+use Rattle.reader.specs.Read.{verdictAs, counted, places, blank}
 use Rattle.reader.specs.declared.Verdict.{Verdict}
 use Rattle.reader.specs.declared.Verdict.the-variants.{Good, Broken}
-use Rattle.reader.specs.declared.FileRead.{FileRead}
 use Rattle.writer.specs.Write.{writtenAs, Wrote}
 use Rattle.writer.specs.declared.Written.{Written}
 use Rattle.writer.proofs.WriteLaws.{past, short}
 use Rattle.writer.proofs.RestLaws.{at}
 use Rattle.writer.proofs.ReadWrittenLaws.{read-right}
-use Rattle.desk.specs.Placing.{inserted, placedAs, writingAll, placedIn, placing, Leaves, placeOf, pushed}
+use Rattle.desk.specs.Placing.{inserted, placedAs, writingAll, placing, Leaves, placeOf, pushed}
 use Rattle.desk.specs.declared.Placed.{Placed}
 use Rattle.desk.specs.declared.Placed.the-variants as placed
 use Rattle.desk.proofs.InsertLaws.{place-most, insert-set, insert-push, push-front, push-length}

@@ -1,28 +1,30 @@
 -- What a record put in its place means for a watch file: it stands there, every other record stays, what is written is read back, and
--- of a good file with room in its 48 places only too short a buffer refuses it. Assumes nothing.
+-- of a good file with a place left for it only too short a buffer refuses it. Assumes nothing.
 use mathlib.Core.Path.{_≡_, refl, sym, ap, _∙_, subst}
-use mathlib.Core.Bool.{Bool, true, false, _&&_, cond}
+use mathlib.Core.Bool.{true, _&&_, cond}
 use mathlib.Core.List.{List, [], _∷_, List·Memᴰ, List·Memᴰ·head, List·Memᴰ·tail, List·Memᴰ·cases-cons, List·Memᴰ·not-nil}
 use mathlib.Core.Logic.{_⊎_, inl, inr, ⊎-elim}
-use Prim.Native.Nat.{ℕ, suc, _+_, _≤_, _<_}
+use Prim.Native.Nat.{ℕ, suc, _*_, _≤_, _<_}
 use native.Mathlib.Omega.{arith}
 use lib.Dec.{ltb, leb, eqb}
 use lib.IntN.{ℤ}
-use lib.ListN.{length, take}
+use lib.ListN.{length, take, length-append}
 use lib.Seq.{take-length}
 use borrow.Author.Tests.{ltb-true, lt-ltb, le-ltb}
-use Rattle.number.specs.Refusal.{Answer, refused, given, answer, Numbered, numbered}
+use Rattle.number.specs.Refusal.{refused, given, answer, numbered}
 use Rattle.number.proofs.Sizes.{and-true}
 use Rattle.quantity.specs.Limits.{lastMinute}
 use Rattle.watchfile.specs.Bytes.{AreBytes}
 use Rattle.watchfile.specs.Rules.{minuteRight, rank}
-use Rattle.watchfile.specs.Format.{DewRule, kindOf, bodyRight, recordRight, rankOf, fileOf, reading, writing}
+use Rattle.watchfile.specs.Format.{DewRule, kindOf, bodyRight, recordRight, rankOf, bodyBytes, bodiesBytes, fileOf, reading, writing}
 use Rattle.watchfile.specs.declared.Record.{Record}
+use Rattle.writer.proofs.SizeLaws.{size-most, length-body, length-file}
 use Rattle.writer.proofs.WriteLaws.{past, short}
 use Rattle.writer.proofs.RightLaws.{AllRight, right-goes-on}
 use Rattle.writer.proofs.ReadWrittenLaws.{read-right}
 use Rattle.writer.proofs.RoundTrips.{written-then-read}
 use Rattle.desk.specs.Placing.{inserted, writingAll, placing}
+use Rattle.desk.proofs.EntryLaws.{both}
 use Rattle.desk.proofs.InsertLaws.{insert-later, insert-same, insert-before, by-rank}
 
 -- ---- the records
@@ -70,9 +72,6 @@ module _ (rule : ℕ → ℤ) where
       let q = and-true (leb t lastMinute && ltb b (rank t k)) (cond (eqb k 2) (leb 180 t) true) (p .0) in
       let s = and-true (leb t lastMinute) (ltb b (rank t k)) (q .0) in
       both (both (both (s .0) (lt-ltb c (rank t k) l)) (q .1)) (p .1)
-    where
-      both : {a b : Bool} → a ≡ true → b ≡ true → (a && b) ≡ true
-      both p q = rw (p, q)
 
   pub right-above : (b : ℕ) (r : Record) → recordRight rule b r ≡ true → b < rankOf r
   unfolding minuteRight
@@ -108,6 +107,18 @@ module _ (rule : ℕ → ℤ) where
       (λ l. ap length (insert-same r q qs l))
       (λ l. absurd (⊎-elim (λ f. let g = ap rankOf f in omega arith) (λ n. let g = rises (rankOf q) x qs (h .1) n in omega arith) (List·Memᴰ·cases-cons m)))
 
+  -- of its minute and kind there is no other,
+  pub only-one : (b : ℕ) (r x : Record) (qs : List Record) → AllRight rule b qs → List·Memᴰ x (inserted r qs) → rankOf x ≡ rankOf r → x ≡ r
+  unfolding inserted
+  only-one b r x [] h m e = ⊎-elim (λ f. f) (λ n. absurd (List·Memᴰ·not-nil n)) (List·Memᴰ·cases-cons m)
+  only-one b r x (q ∷ qs) h m e =
+      by-rank r q (x ≡ r)
+      (λ l. ⊎-elim (λ f. absurd (let g = ap rankOf f in omega arith)) (λ n. only-one (rankOf q) r x qs (h .1) n e) (List·Memᴰ·cases-cons (rw (insert-later r q qs l) at m)))
+      (λ l. ⊎-elim (λ f. f) (λ n. absurd (let g = rises (rankOf q) x qs (h .1) n in omega arith)) (List·Memᴰ·cases-cons (rw (insert-same r q qs l) at m)))
+      (λ l. ⊎-elim (λ f. f)
+      (λ k. ⊎-elim (λ f. absurd (let g = ap rankOf f in omega arith)) (λ n. absurd (let g = rises (rankOf q) x qs (h .1) n in omega arith)) (List·Memᴰ·cases-cons k))
+      (List·Memᴰ·cases-cons (rw (insert-before r q qs l) at m)))
+
 -- and at most one more in any case.
 pub one-more : (r : Record) (qs : List Record) → length (inserted r qs) ≤ suc (length qs)
 unfolding inserted
@@ -120,6 +131,16 @@ one-more r (q ∷ qs) =
 
 -- ---- the file
 
+bodies-most : (rs : List Record) → length (bodiesBytes rs) ≤ 9 * length rs
+unfolding bodiesBytes
+bodies-most [] = omega arith
+bodies-most (r ∷ rs) =
+    omega (arith, length-append (bodyBytes (r .body)) (bodiesBytes rs), length-body (r .body), size-most (kindOf (r .body)), bodies-most rs)
+
+-- the longest file
+pub file-most : (rs : List Record) → length rs ≤ 48 → length (fileOf rs) ≤ 820
+file-most rs h = omega (arith, length-file rs, bodies-most rs)
+
 module _ (rule : ℕ → ℤ) (r : Record) (n : ℕ) (before : List ℕ) (rs : List Record) (old : reading rule (take n before) ≡ given rs) where
   placing-is : placing rule r n before ≡ writingAll rule (length before) (inserted r rs)
   placing-is = rw old
@@ -129,25 +150,40 @@ module _ (rule : ℕ → ℤ) (r : Record) (n : ℕ) (before : List ℕ) (rs : L
   placed-then-read ruled file e =
       written-then-read rule (inserted r rs) (length (inserted r rs)) (length before) file (sym placing-is ∙ e) ruled ∙ ap given (take-length (inserted r rs))
 
-  -- A RECORD THAT IS RIGHT BY ITSELF IS REFUSED ONLY 17, where the file has a place for it.
-  pub only-too-short : AreBytes (take n before) → recordRight rule 0 r ≡ true → length (inserted r rs) ≤ 48
-      → placing rule r n before ≡ answer (short (length before) (length (fileOf (inserted r rs))) ∷ []) (fileOf (inserted r rs))
-  unfolding writing answer
-  only-too-short are ok few =
-      let all = inserted r rs in
-      let right = right-inserted rule 0 r rs ok (read-right rule (take n before) rs are old .right) in
-      placing-is
-      ∙ (rw (take-length all)
-      (right-goes-on rule (past (length all) ∷ short (length before) (length (fileOf all)) ∷ []) (fileOf all) 0 0 all right
-      ∙ (rw (le-ltb 48 (length all) few))))
-
+  -- there is a place for it among the 48 where the file has fewer, or one of the same minute and kind
   pub place-left : length rs < 48 → length (inserted r rs) ≤ 48
   place-left h = omega (arith, one-more r rs)
 
-  pub place-taken : AreBytes (take n before) → (x : Record) → List·Memᴰ x rs → rankOf x ≡ rankOf r → length (inserted r rs) ≤ 48
-  place-taken are x m e =
-      let f = read-right rule (take n before) rs are old in
-      omega (arith, replaced rule 0 r x rs (f .right) m e, f .few)
+  module _ (are : AreBytes (take n before)) where
+    pub place-taken : (x : Record) → List·Memᴰ x rs → rankOf x ≡ rankOf r → length (inserted r rs) ≤ 48
+    place-taken x m e =
+        let f = read-right rule (take n before) rs are old in
+        omega (arith, replaced rule 0 r x rs (f .right) m e, f .few)
+
+    module _ (ok : recordRight rule 0 r ≡ true) (few : length (inserted r rs) ≤ 48) where
+      last-test : placing rule r n before ≡ answer (short (length before) (length (fileOf (inserted r rs))) ∷ []) (fileOf (inserted r rs))
+      unfolding writing answer
+      last-test =
+          let all = inserted r rs in
+          let right = right-inserted rule 0 r rs ok (read-right rule (take n before) rs are old .right) in
+          placing-is
+          ∙ (rw (take-length all)
+          (right-goes-on rule (past (length all) ∷ short (length before) (length (fileOf all)) ∷ []) (fileOf all) 0 0 all right
+          ∙ (rw (le-ltb 48 (length all) few))))
+
+      -- A RECORD THAT IS RIGHT BY ITSELF IS REFUSED ONLY 17,
+      pub refused-where-short : length before < length (fileOf (inserted r rs)) → placing rule r n before ≡ refused (numbered 17 (length (fileOf (inserted r rs)) ∷ []))
+      unfolding answer
+      refused-where-short h = last-test ∙ (rw (lt-ltb (length before) (length (fileOf (inserted r rs))) h))
+
+      -- AND PLACED WHERE THE BUFFER HAS ROOM FOR THE NEW FILE,
+      pub placed-where-room : length (fileOf (inserted r rs)) ≤ length before → placing rule r n before ≡ given (fileOf (inserted r rs))
+      unfolding answer
+      placed-where-room h = last-test ∙ (rw (le-ltb (length before) (length (fileOf (inserted r rs))) h))
+
+      -- AS ONE OF 820 BYTES ALWAYS HAS.
+      pub always-placed : 820 ≤ length before → placing rule r n before ≡ given (fileOf (inserted r rs))
+      always-placed h = placed-where-room (omega (arith, file-most (inserted r rs) few))
 
 -- A FILE WITHOUT RECORDS IS READ AS NONE.
 pub empty-then-read : (rule : ℕ → ℤ) → DewRule rule → (room : ℕ) (file : List ℕ) → writingAll rule room [] ≡ given file → reading rule file ≡ given []

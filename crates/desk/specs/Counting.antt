@@ -6,7 +6,7 @@ use lib.ListN.{length, getD, take, drop, set}
 use Rattle.number.specs.Refusal.{Answer, refused, given}
 use Rattle.store.specs.Block.{hearing, heardBy}
 
--- "Message: 16 bytes": the first n of a text
+-- "A message is 16 bytes": the first n messages of a text.
 unfoldable pub cut : ℕ → List ℕ → List (List ℕ)
 cut zero s = []
 cut (suc n) s = take 16 s ∷ cut n (drop 16 s)

@@ -1,7 +1,7 @@
 -- `empty` meets its contract: of no places the first none are no records. Assumes nothing.
-use Rattle.desk.proofs.PlaceLaws.{leaves, writes-none}
 use denote.Ref.{now}
 use borrow.Author.Needs.{needs}
+use Rattle.desk.proofs.PlaceLaws.{leaves, writes-none}
 use Rattle.desk.proofs.empty.Statement.{statement}
 use Rattle.desk.proofs.empty.Tie as tie
 

@@ -2,9 +2,9 @@
 use mathlib.Core.Path.{sym, ap, _∙_}
 use lib.IntN.{pos, negℤ}
 use borrow.Author.Tests.{not-true, not-false}
+use borrow.Author.Needs.{needs}
 use Rattle.number.specs.Whole.{within}
 use Rattle.desk.proofs.EntryLaws.{no-e, no-saturation, no-deficit, no-relative, no-dew, humidity-some}
-use borrow.Author.Needs.{needs}
 use Rattle.desk.proofs.humidity_record.Statement.{statement}
 use Rattle.desk.proofs.humidity_record.Tie as tie
 

@@ -1,12 +1,11 @@
 -- `place` meets its contract: a broken file is refused, and else what was read is written with one more. Assumes nothing.
 use native.Mathlib.Omega.{arith}
 use denote.Ref.{now}
-use mathlib.Core.Path.{_≡_}
-use lib.ListN.{length, take, length-take}
+use lib.ListN.{take, length-take}
+use borrow.Author.Needs.{needs}
 use Rattle.watchfile.specs.Format.{reading}
 use Rattle.watchfile.proofs.DewRules.{the-rule}
 use Rattle.desk.proofs.PlaceLaws.{bytes-front, broken-there, good-there, leaves-broken, leaves-placed}
-use borrow.Author.Needs.{needs}
 use Rattle.desk.proofs.place.Statement.{statement}
 use Rattle.desk.proofs.place.Tie as tie
 

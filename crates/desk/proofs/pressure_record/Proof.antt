@@ -2,8 +2,8 @@
 use mathlib.Core.Path.{sym, _∙_}
 use native.Mathlib.Omega.{arith}
 use borrow.Author.Tests.{not-true, not-false}
-use Rattle.desk.proofs.EntryLaws.{pressure-small, pressure-none, pressure-some}
 use borrow.Author.Needs.{needs}
+use Rattle.desk.proofs.EntryLaws.{pressure-small, pressure-none, pressure-some}
 use Rattle.desk.proofs.pressure_record.Statement.{statement}
 use Rattle.desk.proofs.pressure_record.Tie as tie
 

@@ -1,10 +1,9 @@
 -- `pushed` meets its contract: pushing what is carried from here on comes to what was to be done at the start. Assumes nothing.
 use mathlib.Core.Path.{_≡_, refl, sym, ap, _∙_}
-use Prim.Native.Nat.{ℕ, suc, _+_, _-_, _≤_}
+use Prim.Native.Nat.{ℕ, suc, _+_, _-_}
 use native.Mathlib.Omega.{arith}
 use lib.ListN.{length, take, length-set}
 use borrow.Author.Needs.{needs}
-use Rattle.watchfile.specs.declared.Record.{Record}
 use Rattle.writer.proofs.RestLaws.{at}
 use Rattle.desk.specs.Placing.{pushed}
 use Rattle.desk.proofs.InsertLaws.{push-on, push-off}

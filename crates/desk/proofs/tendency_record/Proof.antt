@@ -2,8 +2,8 @@
 use mathlib.Core.Path.{sym, _∙_}
 use native.Mathlib.Omega.{arith}
 use borrow.Author.Tests.{not-true, not-false}
-use Rattle.desk.proofs.EntryLaws.{signed-small, no-change, no-absent, tendency-some}
 use borrow.Author.Needs.{needs}
+use Rattle.desk.proofs.EntryLaws.{signed-small, no-change, no-absent, tendency-some}
 use Rattle.desk.proofs.tendency_record.Statement.{statement}
 use Rattle.desk.proofs.tendency_record.Tie as tie
 

@@ -1,6 +1,6 @@
 -- `wind_record` meets its contract, test by test. Assumes nothing.
-use Rattle.desk.proofs.EntryLaws.{no-speed, no-direction, wind-some}
 use borrow.Author.Needs.{needs}
+use Rattle.desk.proofs.EntryLaws.{no-speed, no-direction, wind-some}
 use Rattle.desk.proofs.wind_record.Statement.{statement}
 use Rattle.desk.proofs.wind_record.Tie as tie
 

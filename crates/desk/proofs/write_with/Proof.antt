@@ -6,10 +6,10 @@ use Prim.Native.Nat.{_+_}
 use native.Mathlib.Omega.{arith}
 use denote.Ref.{now}
 use lib.ListN.{length}
+use borrow.Author.Needs.{needs}
 use Rattle.watchfile.specs.Format.{writing}
 use Rattle.watchfile.specs.declared.Record.{Record}
 use Rattle.desk.proofs.PlaceLaws.{leaves, set-written, push-written}
-use borrow.Author.Needs.{needs}
 use Rattle.desk.proofs.write_with.Statement.{statement}
 use Rattle.desk.proofs.write_with.Tie as tie
 

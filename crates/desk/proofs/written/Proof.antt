@@ -1,7 +1,7 @@
 -- `written` meets its contract, case by case. Assumes nothing.
 use mathlib.Core.Path.{sym, ap}
-use Rattle.writer.specs.Write.{writtenAs}
 use borrow.Author.Needs.{needs}
+use Rattle.writer.specs.Write.{writtenAs}
 use Rattle.desk.proofs.written.Statement.{statement}
 use Rattle.desk.proofs.written.Tie as tie
 
