@@ -11,7 +11,7 @@ use lib.IntN.{ℤ}
 use lib.ListN.{length, take, length-append}
 use lib.Seq.{take-length}
 use borrow.Author.Tests.{ltb-true, lt-ltb, le-ltb}
-use Rattle.number.specs.Refusal.{refused, given, answer, numbered}
+use Rattle.number.specs.Refusal.{Answer, refused, given, answer, Numbered, numbered}
 use Rattle.number.proofs.Sizes.{and-true}
 use Rattle.quantity.specs.Limits.{lastMinute}
 use Rattle.watchfile.specs.Bytes.{AreBytes}
@@ -23,7 +23,8 @@ use Rattle.writer.proofs.WriteLaws.{past, short}
 use Rattle.writer.proofs.RightLaws.{AllRight, right-goes-on}
 use Rattle.writer.proofs.ReadWrittenLaws.{read-right}
 use Rattle.writer.proofs.RoundTrips.{written-then-read}
-use Rattle.desk.specs.Placing.{inserted, writingAll, placing}
+use Rattle.desk.specs.Placing.{inserted, placedAs, writingAll, placing, Leaves}
+use Rattle.desk.specs.declared.Placed.{Placed}
 use Rattle.desk.proofs.EntryLaws.{both}
 use Rattle.desk.proofs.InsertLaws.{insert-later, insert-same, insert-before, by-rank}
 
@@ -188,3 +189,12 @@ module _ (rule : ℕ → ℤ) (r : Record) (n : ℕ) (before : List ℕ) (rs : L
 -- A FILE WITHOUT RECORDS IS READ AS NONE.
 pub empty-then-read : (rule : ℕ → ℤ) → DewRule rule → (room : ℕ) (file : List ℕ) → writingAll rule room [] ≡ given file → reading rule file ≡ given []
 empty-then-read rule ruled room file e = written-then-read rule [] 0 room file e ruled
+
+-- REFUSED, NO BYTE CHANGES.
+pub refused-leaves-every-byte : (file : Answer Numbered (List ℕ)) (before after : List ℕ) (p : Placed) (x : Numbered)
+    → Leaves file before after p → placedAs p ≡ refused x → after ≡ before
+refused-leaves-every-byte (refused y) before after p x l e = l .bytes
+refused-leaves-every-byte (given f) before after p x l e =
+    let never : _≡_ {A = Answer Numbered ℕ} (refused x) (given (length f)) = sym e ∙ l .answer in
+    let z : _≡_ {A = ℕ} 0 1 = cc in
+    absurd (omega arith)
