@@ -120,6 +120,15 @@ use Rattle.text.proofs.put_field.Reads as text-put-field
 use Rattle.text.proofs.put_signed.Reads as text-put-signed
 use Rattle.listing.proofs.SingleAnswers as listing
 use Rattle.listing.proofs.list.Reads as listing-list
+use Rattle.desk.proofs.SingleAnswers as desk
+use Rattle.desk.proofs.number_of.Reads as desk-number-of
+use Rattle.desk.proofs.hear_all.Reads as desk-hear-all
+use Rattle.desk.proofs.pressure_record.Reads as desk-pressure-record
+use Rattle.desk.proofs.tendency_record.Reads as desk-tendency-record
+use Rattle.desk.proofs.wind_record.Reads as desk-wind-record
+use Rattle.desk.proofs.humidity_record.Reads as desk-humidity-record
+use Rattle.desk.proofs.place.Reads as desk-place
+use Rattle.desk.proofs.empty.Reads as desk-empty
 use Rattle.answer.proofs.SingleAnswers as answer
 use Rattle.answer.proofs.put_line.Reads as answer-put-line
 use Rattle.answer.proofs.put_opening.Reads as answer-put-opening
@@ -294,6 +303,18 @@ pub record OneAnswerEach : Type 0 where
   -- listing
   pub listing-list-single : Single listing-list.Post
   pub listing-list-left : SingleLeft listing-list.Post (λ κs s. s .1 .0 .now)
+  -- desk
+  pub desk-number-of-single : Single desk-number-of.Post
+  pub desk-hear-all-single : Single desk-hear-all.Post
+  pub desk-hear-all-left : SingleLeft desk-hear-all.Post (λ κs s. s .0 .now)
+  pub desk-pressure-record-single : Single desk-pressure-record.Post
+  pub desk-tendency-record-single : Single desk-tendency-record.Post
+  pub desk-wind-record-single : Single desk-wind-record.Post
+  pub desk-humidity-record-single : Single desk-humidity-record.Post
+  pub desk-place-single : Single desk-place.Post
+  pub desk-place-left : SingleLeft desk-place.Post (λ κs s. s .0 .now)
+  pub desk-empty-single : Single desk-empty.Post
+  pub desk-empty-left : SingleLeft desk-empty.Post (λ κs s. s .0 .now)
   -- answer
   pub answer-put-line-single : Single answer-put-line.Post
   pub answer-put-line-left : SingleLeft answer-put-line.Post (λ κs s. s .0 .now)
@@ -463,6 +484,17 @@ one-answer-each =
       text-put-signed-left = text.single-put-signed-text;
       listing-list-single = listing.single-list;
       listing-list-left = listing.single-list-text;
+      desk-number-of-single = desk.single-number-of;
+      desk-hear-all-single = desk.single-hear-all;
+      desk-hear-all-left = desk.single-hear-all-left;
+      desk-pressure-record-single = desk.single-pressure-record;
+      desk-tendency-record-single = desk.single-tendency-record;
+      desk-wind-record-single = desk.single-wind-record;
+      desk-humidity-record-single = desk.single-humidity-record;
+      desk-place-single = desk.single-place;
+      desk-place-left = desk.single-place-left;
+      desk-empty-single = desk.single-empty;
+      desk-empty-left = desk.single-empty-left;
       answer-put-line-single = answer.single-put-line;
       answer-put-line-left = answer.single-put-line-text;
       answer-put-opening-single = answer.single-put-opening;

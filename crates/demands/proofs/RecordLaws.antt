@@ -9,13 +9,14 @@ use lib.Dec.{eqb, leb, ltb, lit<}
 use lib.IntN.{ℤ, natAbs, _-ℤ_}
 use borrow.Author.Tests.{ltb-false, le-leb, lt-ltb, not-false}
 use Rattle.number.specs.Refusal.{given, answer}
-use Rattle.quantity.specs.Limits.{lastMinute, inside, bulb, recordedPressure}
+use Rattle.quantity.specs.Limits.{lastMinute, inside, pressureLimits, wheelhouse, bulb, recordedPressure}
 use Rattle.quantity.specs.declared.MetresPerSecond.{MetresPerSecond}
 use Rattle.quantity.specs.declared.Degrees.{Degrees}
 use Rattle.settings.specs.Settings.{checked}
 use Rattle.settings.specs.Settings as settings
 use Rattle.settings.specs.declared.Settings.{Settings}
 use Rattle.store.specs.History.{history, remembered, isPresent}
+use Rattle.pressure.proofs.PressureTheorems.{sea-level-recorded}
 use Rattle.vapour.specs.Vapour.{water, IsTable}
 use Rattle.vapour.proofs.SaturationLaws.{near-one}
 use Rattle.vapour.proofs.TableExists.{the-table}
@@ -31,7 +32,7 @@ use Rattle.watchfile.specs.Rules.{minuteRight, rank}
 use Rattle.watchfile.specs.Format.{DewRule, kept, bodyRight, recordRight}
 use Rattle.watchfile.specs.declared.Body.{Body}
 use Rattle.watchfile.specs.declared.Body.the-variants.{Pressure, Tendency}
-use Rattle.demands.specs.Records.{pressureRecord, tendencyRecord, windRecord, humidityRecord}
+use Rattle.desk.specs.Records.{pressureRecord, tendencyRecord, windRecord, humidityRecord}
 use Rattle.demands.proofs.RecordedFigures.{pressure-taken, tendency-taken, wind-taken, humidity-taken}
 
 both : {a b : Bool} → a ≡ true → b ≡ true → (a && b) ≡ true
@@ -48,14 +49,38 @@ module _ (g : Settings) (good : checked g ≡ given tt) (M : List (List ℕ)) (m
 
   -- ---- pressure
 
-  pub pressure-record : (p : ℤ) → Answers (pressureTests S m) (PressureRule S m) (given p) → (dew : ℕ → ℤ) → recordRight dew 0 (pressureRecord m p) ≡ true
-  pressure-record p w dew =
+  -- an answer's minute may be asked, and it is worked from readings within their limits
+  record ReadFor (p : ℤ) : Type 0 where
+    pub in-time : ltb lastMinute m ≡ false
+    pub in-pressure : inside (pressureLimits (g .unit)) (first (S .recall 0 m)) ≡ true
+    pub in-warmth : inside wheelhouse (first (S .recall 1 m)) ≡ true
+    pub is : p ≡ seaLevelAt S m
+
+  pressure-read : (p : ℤ) → Answers (pressureTests S m) (PressureRule S m) (given p) → ReadFor p
+  pressure-read p w =
       let a = passed _ _ (PressureRule S m) p w in
       let b = passed _ _ (PressureRule S m) p (a .1) in
       let c = passed _ _ (PressureRule S m) p (b .1) in
       let d = passed _ _ (PressureRule S m) p (c .1) in
-      let taken = pressure-taken g good dew (first (S .recall 0 m)) (first (S .recall 1 m)) (heard-inside g good M m 0 (lit< tt) (not-false _ (b .0))) (heard-inside g good M m 1 (lit< tt) (not-false _ (c .0))) in
-      both (minute-right m 1 (a .0) (lit< tt) refl) (subst (λ (z : ℤ). bodyRight dew (Pressure (natAbs z)) ≡ true) (sym (ruled (PressureRule S m) p (d .1))) taken)
+      record {
+        in-time = a .0;
+        in-pressure = heard-inside g good M m 0 (lit< tt) (not-false _ (b .0));
+        in-warmth = heard-inside g good M m 1 (lit< tt) (not-false _ (c .0));
+        is = ruled (PressureRule S m) p (d .1);
+      }
+
+  -- it lies within the limits of a file, with its own sign
+  pub pressure-inside : (p : ℤ) → Answers (pressureTests S m) (PressureRule S m) (given p) → inside recordedPressure p ≡ true
+  pressure-inside p w =
+      let q = pressure-read p w in
+      subst (λ (z : ℤ). inside recordedPressure z ≡ true) (sym (q .is))
+      (sea-level-recorded g good (first (S .recall 0 m)) (first (S .recall 1 m)) (q .in-pressure) (q .in-warmth))
+
+  pub pressure-record : (p : ℤ) → Answers (pressureTests S m) (PressureRule S m) (given p) → (dew : ℕ → ℤ) → recordRight dew 0 (pressureRecord m p) ≡ true
+  pressure-record p w dew =
+      let q = pressure-read p w in
+      let taken = pressure-taken g good dew (first (S .recall 0 m)) (first (S .recall 1 m)) (q .in-pressure) (q .in-warmth) in
+      both (minute-right m 1 (q .in-time) (lit< tt) refl) (subst (λ (z : ℤ). bodyRight dew (Pressure (natAbs z)) ≡ true) (sym (q .is)) taken)
 
   -- ---- tendency
 

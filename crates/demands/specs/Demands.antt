@@ -36,7 +36,7 @@ use Rattle.reader.specs.declared.FileRead.{FileRead}
 use Rattle.reader.specs.declared.Verdict.the-variants.{Broken}
 use Rattle.writer.specs.Write.{Wrote, writtenAs}
 use Rattle.writer.specs.declared.Written.{Written}
-use Rattle.demands.specs.Records.{pressureRecord, tendencyRecord, windRecord, humidityRecord}
+use Rattle.desk.specs.Records.{pressureRecord, tendencyRecord, windRecord, humidityRecord}
 
 -- ---- a station at work
 

@@ -1,3 +1,2 @@
-pub mod Records
 pub mod Demands
 pub mod EmptyPrograms

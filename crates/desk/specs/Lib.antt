@@ -1,0 +1,4 @@
+pub mod Records
+pub mod Entries
+pub mod Placing
+pub mod Counting
