@@ -120,11 +120,20 @@ use Rattle.answer.proofs.put_tendency.Reads as answer-put-tendency
 use Rattle.answer.proofs.put_wind.Reads as answer-put-wind
 use Rattle.answer.proofs.put_humidity.Reads as answer-put-humidity
 use Rattle.answer.proofs.put_written.Reads as answer-put-written
+use Rattle.line.proofs.SingleAnswers as line
+use Rattle.line.proofs.next_word.Reads as line-next-word
+use Rattle.line.proofs.field_end.Reads as line-field-end
+use Rattle.line.proofs.same.Reads as line-same
+use Rattle.line.proofs.whole.Reads as line-whole
+use Rattle.line.proofs.signed.Reads as line-signed
+use Rattle.hex.proofs.SingleAnswers as hex
+use Rattle.hex.proofs.is_hex.Reads as hex-is-hex
+use Rattle.hex.proofs.unhex.Reads as hex-unhex
+use Rattle.hex.proofs.put_hex.Reads as hex-put-hex
 use Rattle.command.proofs.SingleAnswers as command
 use Rattle.command.proofs.parse.Reads as command-parse
-use Rattle.command.proofs.open_line.Reads as command-open-line
-use Rattle.command.proofs.write_line.Reads as command-write-line
-use Rattle.command.proofs.unhex.Reads as command-unhex
+use Rattle.command.proofs.settings_of.Reads as command-settings-of
+use Rattle.command.proofs.records_of.Reads as command-records-of
 use Rattle.zhitomrak.proofs.SingleAnswers as zhitomrak
 use Rattle.zhitomrak.proofs.zhitomrak_open.Reads as zhitomrak-zhitomrak-open
 use Rattle.zhitomrak.proofs.zhitomrak_hear.Reads as zhitomrak-zhitomrak-hear
@@ -277,12 +286,24 @@ pub record OneAnswerEach : Type 0 where
   pub answer-put-humidity-left : SingleLeft answer-put-humidity.Post (λ κs s. s .0 .now)
   pub answer-put-written-single : Single answer-put-written.Post
   pub answer-put-written-left : SingleLeft answer-put-written.Post (λ κs s. s .0 .now)
+  -- line
+  pub line-next-word-single : Single line-next-word.Post
+  pub line-word-single : line.SingleWord
+  pub line-field-end-single : Single line-field-end.Post
+  pub line-same-single : Single line-same.Post
+  pub line-whole-single : Single line-whole.Post
+  pub line-signed-single : Single line-signed.Post
+  -- hex
+  pub hex-is-hex-single : Single hex-is-hex.Post
+  pub hex-unhex-single : Single hex-unhex.Post
+  pub hex-unhex-left : SingleLeft hex-unhex.Post (λ κs s. s .1 .0 .now)
+  pub hex-put-hex-single : Single hex-put-hex.Post
+  pub hex-put-hex-left : SingleLeft hex-put-hex.Post (λ κs s. s .0 .now)
   -- command
   pub command-parse-single : Single command-parse.Post
-  pub command-open-line-single : Single command-open-line.Post
-  pub command-write-line-single : Single command-write-line.Post
-  pub command-unhex-single : Single command-unhex.Post
-  pub command-unhex-left : SingleLeft command-unhex.Post (λ κs s. s .1 .0 .now)
+  pub command-parse-left : SingleLeft command-parse.Post (λ κs s. s .1 .0 .now)
+  pub command-settings-of-single : Single command-settings-of.Post
+  pub command-records-of-single : Single command-records-of.Post
   -- zhitomrak
   pub zhitomrak-zhitomrak-open-single : Single zhitomrak-zhitomrak-open.Post
   pub zhitomrak-zhitomrak-open-left : SingleLeft zhitomrak-zhitomrak-open.Post (λ κs s. s .0 .now)
@@ -423,11 +444,21 @@ one-answer-each =
       answer-put-humidity-left = answer.single-put-humidity-text;
       answer-put-written-single = answer.single-put-written;
       answer-put-written-left = answer.single-put-written-text;
+      line-next-word-single = line.single-next-word;
+      line-word-single = line.single-word;
+      line-field-end-single = line.single-field-end;
+      line-same-single = line.single-same;
+      line-whole-single = line.single-whole;
+      line-signed-single = line.single-signed;
+      hex-is-hex-single = hex.single-is-hex;
+      hex-unhex-single = hex.single-unhex;
+      hex-unhex-left = hex.single-unhex-bytes;
+      hex-put-hex-single = hex.single-put-hex;
+      hex-put-hex-left = hex.single-put-hex-text;
       command-parse-single = command.single-parse;
-      command-open-line-single = command.single-open-line;
-      command-write-line-single = command.single-write-line;
-      command-unhex-single = command.single-unhex;
-      command-unhex-left = command.single-unhex-bytes;
+      command-parse-left = command.single-parse-numbers;
+      command-settings-of-single = command.single-settings-of;
+      command-records-of-single = command.single-records-of;
       zhitomrak-zhitomrak-open-single = zhitomrak.single-open;
       zhitomrak-zhitomrak-open-left = zhitomrak.single-open-left;
       zhitomrak-zhitomrak-hear-single = zhitomrak.single-hear;
