@@ -395,7 +395,19 @@ pub fn parse(line: &[u8], numbers: &mut [u64]) -> Command
                 return Command::Nothing;
             }
             by_table(
-                b"open =uzzzz:zz hear =x pressure =n tendency =n wind =n humidity =n read =x write =n:Pnh....:Tnzo...:Wnhh...:Hnhhhoz feed =f log =qn save =f list =f help = ",
+                b"open =uzzzz:zz \
+                hear =x \
+                pressure =n \
+                tendency =n \
+                wind =n \
+                humidity =n \
+                read =x \
+                write =n:Pnh....:Tnzo...:Wnhh...:Hnhhhoz \
+                feed =f \
+                log =qn \
+                save =f \
+                list =f \
+                help = ",
                 line,
                 from,
                 to,
