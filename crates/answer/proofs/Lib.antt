@@ -1,4 +1,2 @@
-pub mod RowLaws
-pub mod HexLaws
 pub mod SingleAnswers
 pub mod Worked

@@ -12,7 +12,7 @@ use Rattle.station.specs.declared.TendencyAnswer.the-variants as tendency
 use Rattle.station.specs.declared.WindAnswer.the-variants as wind
 use Rattle.station.specs.declared.HumidityAnswer.the-variants as humidity
 use Rattle.writer.specs.declared.Written.the-variants as written
-use Rattle.answer.specs.Row.{row}
+use Rattle.hex.specs.Row.{row}
 use Rattle.answer.specs.Answer.{openingLine, hearingLine, pressureLine, tendencyLine, windLine, humidityLine, writtenLine}
 
 pub opened : openingLine settings.Good ≡ letters "open\n"

@@ -21,8 +21,8 @@ use Rattle.station.specs.declared.HumidityAnswer.{HumidityAnswer}
 use Rattle.station.specs.declared.HumidityAnswer.the-variants as humidity
 use Rattle.writer.specs.Write.{writtenAs}
 use Rattle.writer.specs.declared.Written.{Written}
-use Rattle.answer.specs.Row.{row}
-use Rattle.answer.specs.Hex.{hex}
+use Rattle.hex.specs.Row.{row}
+use Rattle.hex.specs.Hex.{hex}
 
 -- Numbers, each behind a space.
 abbrev pub fields : List ℕ → List ℕ

@@ -2,7 +2,7 @@
 // what would lie beyond the buffer's end is cut off.
 ghost use mathlib.Core.Path.{_≡_};
 ghost use mathlib.Core.List.{[], _∷_, _++_};
-ghost use Prim.Native.Nat.{_<_, _≤_};
+ghost use Prim.Native.Nat.{_≤_};
 ghost use lib.ListN.{length};
 ghost use Rattle.wire.specs.Decode.{numberOf};
 ghost use Rattle.station.specs.Told.{refusalOf};
@@ -12,7 +12,6 @@ ghost use Rattle.station.specs.declared.WindAnswer.the-variants as wind;
 ghost use Rattle.station.specs.declared.HumidityAnswer.the-variants as humidity;
 ghost use Rattle.text.specs.Letters.{letters};
 ghost use Rattle.text.specs.Text.{field, end, Put};
-ghost use Rattle.answer.specs.Hex.{digit16, hexOf, hex};
 ghost use Rattle.answer.specs.Answer.{fields, refusedLine, openingLine, hearingLine, pressureLine, tendencyLine, windLine, humidityFields, humidityLine, fileLine, writtenLine};
 use humidity::HumidityFigures;
 use quantity::Degrees;
@@ -230,42 +229,12 @@ pub fn put_humidity(text: &mut [u8], at: usize, minute: u32, r: HumidityAnswer) 
 
 // ---- files
 
-// The byte of a digit of sixteen.
-fn digit16(d: u8) -> u8
-    requires { ⌜ d < 16 ⌝ }
-    ensures { λ r. ⌜ r ≡ digit16 d ⌝ }
-{
-    if d < 10 { 48 + d } else { 87 + d }
-}
-
-// Puts the two digits of a byte.
-fn put_hex_byte(text: &mut [u8], at: usize, b: u8) -> usize
-    ensures { λ r. ⌜ Put (now (text .entry)) (now (text .exit)) at (hexOf b) r ⌝ }
-{
-    let behind = text::put_byte(text, at, digit16(b / 16));
-    text::put_byte(text, behind, digit16(b % 16))
-}
-
-// Puts the digits of bytes.
-fn put_hex(text: &mut [u8], at: usize, bytes: &[u8]) -> usize
-    requires { ⌜ at ≤ length (now text) ⌝ }
-    ensures { λ r. ⌜ Put (now (text .entry)) (now (text .exit)) at (hex (now (bytes .entry))) r ⌝ }
-{
-    let mut place = at;
-    let mut i = 0;
-    while i < bytes.len() {
-        place = put_hex_byte(text, place, bytes[i]);
-        i += 1;
-    }
-    place
-}
-
 // Puts the line of a file.
 fn put_file(text: &mut [u8], at: usize, file: &[u8]) -> usize
     ensures { λ r. ⌜ Put (now (text .entry)) (now (text .exit)) at (fileLine (now (file .entry))) r ⌝ }
 {
     let behind = text::put_bytes(text, at, b"file ");
-    let last = put_hex(text, behind, file);
+    let last = hex::put_hex(text, behind, file);
     text::put_byte(text, last, b'\n')
 }
 

@@ -1,7 +1,4 @@
-pub mod WordLaws
-pub mod NumeralLaws
-pub mod HexLaws
-pub mod RuleLaws
-pub mod ListLaws
-pub mod SingleAnswers
+pub mod FormLaws
+pub mod ValueLaws
 pub mod Worked
+pub mod SingleAnswers

@@ -1,24 +1,20 @@
--- Each public contract of this crate allows a single answer: it gives the result, and the bytes of the buffer, as functions of the
+-- Each public contract of this crate allows a single answer: it gives the result, and the numbers of the buffer, as functions of the
 -- arguments. Assumes nothing.
 use mathlib.Core.Path.{sym, _∙_}
 use Rattle.number.specs.Single.{Single, SingleLeft}
 use Rattle.command.proofs.parse.Reads as parse
-use Rattle.command.proofs.open_line.Reads as open-line
-use Rattle.command.proofs.write_line.Reads as write-line
-use Rattle.command.proofs.unhex.Reads as unhex
+use Rattle.command.proofs.settings_of.Reads as settings-of
+use Rattle.command.proofs.records_of.Reads as records-of
 
 pub single-parse : Single parse.Post
-single-parse κs a r r′ s s′ p q = p ∙ sym q
+single-parse κs a r r′ s s′ p q = p .command ∙ sym (q .command)
 
-pub single-open-line : Single open-line.Post
-single-open-line κs a r r′ s s′ p q = p ∙ sym q
+-- the numbers behind the buffer's reference, at exit
+pub single-parse-numbers : SingleLeft parse.Post (λ κs s. s .1 .0 .now)
+single-parse-numbers κs a r r′ s s′ p q = p .numbers ∙ sym (q .numbers)
 
-pub single-write-line : Single write-line.Post
-single-write-line κs a r r′ s s′ p q = p ∙ sym q
+pub single-settings-of : Single settings-of.Post
+single-settings-of κs a r r′ s s′ p q = p ∙ sym q
 
-pub single-unhex : Single unhex.Post
-single-unhex κs a r r′ s s′ p q = p .answer ∙ sym (q .answer)
-
--- the bytes behind the buffer's reference, at exit
-pub single-unhex-bytes : SingleLeft unhex.Post (λ κs s. s .1 .0 .now)
-single-unhex-bytes κs a r r′ s s′ p q = p .bytes ∙ sym (q .bytes)
+pub single-records-of : Single records-of.Post
+single-records-of κs a r r′ s s′ p q = p ∙ sym q

@@ -1,9 +1,4 @@
-pub mod Words
-pub mod Numeral
-pub mod Hex
-pub mod Rules
-pub mod OpenWords
-pub mod Questions
-pub mod WriteWords
+pub mod Forms
 pub mod Commands
-pub mod Work
+pub mod Values
+pub mod Laid

@@ -1,46 +1,59 @@
-// The commands of the console: from a line of text, without its line end, to a command. Nothing here asks the station.
+// The commands of the console: from a line of text, without its line end, to a verb and numbers. What the words behind a verb's name
+// are is told by a form, and one interpreter reads all forms. Nothing here asks the station.
 ghost use mathlib.Core.Path.{_≡_};
-ghost use mathlib.Core.Bool.{cond};
-ghost use mathlib.Core.List.{_∷_};
+ghost use mathlib.Core.List.{[], _∷_};
 ghost use Prim.Native.Nat.{_≤_, _<_};
 ghost use lib.ListN.{length};
-ghost use Rattle.command.specs.Words.{wordAt, wordsAt};
-ghost use Rattle.command.specs.Hex.{Unhexes};
-ghost use Rattle.command.specs.OpenWords.{openLine};
-ghost use Rattle.command.specs.Questions.{questionOf};
-ghost use Rattle.command.specs.WriteWords.{writeLine};
-ghost use Rattle.command.specs.Commands.{lastMinute, lastHex, lastWord, commandWith, logged, peopleCommand, stationCommand, commandFrom, commandAs, commandOf};
-ghost use Rattle.command.specs.Work.{askedAs, minuteAs, placeAs};
+ghost use Rattle.text.specs.Text.{Put};
+ghost use Rattle.line.specs.Words.{words, wordAt, wordsAt, field, fields, fieldsAt};
+ghost use Rattle.command.specs.Forms.{named, told, fits, fieldsTold, listTold, wordTold, lineTold};
+ghost use Rattle.command.specs.Commands.{verbAt, rowsOf, byTable, commandOf};
+ghost use Rattle.command.specs.Laid.{Lays, Parses};
+ghost use Rattle.command.specs.Values.{settingsOf, recordsOf};
 use hex::is_hex;
-use hex::lay;
+use line::Part;
+use line::Said;
+use line::field_end;
+use line::next_word;
+use line::same;
+use line::signed;
+use line::whole;
 use number::Kept;
-use numerals::whole_word;
-use open::not_open;
-use open::open_unit;
+use settings::Correction;
+use settings::Height;
 use settings::POINTS;
 use settings::Point;
+use settings::PsychrometerCoefficient;
+use settings::SeaLevelDifference;
 use settings::Settings;
+use settings::TemperatureCoefficient;
+use values::at;
+use values::count_of;
+use values::kept_at;
+use values::point_of;
+use values::record_of;
+use values::unit_of;
 use watchfile::Body;
 use watchfile::RECORDS;
 use watchfile::Record;
-use words::next_word;
-use words::same;
-use words::words_ended;
-use write::not_written;
-use write::write_room;
 
-mod hex;
-mod numerals;
-mod open;
-mod words;
-mod write;
+mod values;
 
-// The four questions, which are the four kinds of record too.
-pub enum Question {
+// What a command does.
+pub enum Verb {
+    Open,
+    Hear,
     Pressure,
     Tendency,
     Wind,
     Humidity,
+    Read,
+    Write,
+    FeedFile,
+    Log,
+    SaveFile,
+    ListFile,
+    Help,
 }
 
 // Where a word stands in a line: its first byte, and the place behind its last.
@@ -49,417 +62,402 @@ pub struct Place {
     pub to: usize,
 }
 
-// What is wrong with a line: the first fault from the left, and where the word stands that has it.
+// What is wrong with a line: the first fault from the left.
 pub enum Fault {
     // the first word is no command
     NotACommand(Place),
-    // the word behind `log` is no question
-    NotAQuestion(Place),
     // a word is missing, or left over
     WordCount,
-    // a word, or a field of it, is no numeral, or does not fit
-    BadNumber(Place),
-    NotAUnit(Place),
-    // not READING:CORRECTION
-    NotAPoint(Place),
-    // no kind of record, or not its fields
-    NotARecord(Place),
-    // an odd number of digits, or a byte that is none
-    BadHex(Place),
+    // a word, or a field of it, is not what a letter of the form asks for: the letter
+    NotSuch(u8, Place),
+    // a word of a list has not the fields of its form, or the letter of no form
+    Misshapen(Place),
 }
 
-// A command. What `open` and `write` say more is told by `open_line` and `write_line`.
 pub enum Command {
     // no words, or a remark
     Nothing,
-    Open,
-    // bytes in hex: from 0 to 0 where there is no word
-    Hear(Place),
-    Ask(Question, u32),
-    Read(Place),
-    Write,
-    FeedFile(Place),
-    Log(Question, u32),
-    SaveFile(Place),
-    ListFile(Place),
-    Help,
+    // a verb, and how many words stand behind its name
+    Does(Verb, usize),
     Wrong(Fault),
 }
 
-// What a line with many words comes to.
-pub enum LineRead {
-    Good,
-    Faulty(Fault),
-}
-
-// The settings of an `open` line; all zero where it is faulty.
-pub struct OpenLine {
-    pub read: LineRead,
-    pub settings: Settings,
-}
-
-// The room and the records of a `write` line; none where it is faulty. Records behind the 48th are counted only.
-pub struct WriteLine {
-    pub read: LineRead,
-    pub room: u32,
-    pub count: usize,
-    pub records: [Record; RECORDS],
-}
-
-// What a word in hex comes to.
-pub enum Unhexed {
-    // how many bytes
-    Bytes(usize),
-    NotHex,
-    NoRoom,
-}
+// The places that the numbers of the longest command take: a room and 48 records.
+pub const NUMBERS: usize = 337;
 
 // What is wrong within a word.
 enum Flaw {
-    // its fields are not those that are asked for
+    NoFlaw,
+    NotSuch(u8),
     Misshapen,
-    NoNumber,
+    LeftOver,
 }
 
-// A part of a line or of a word.
-enum Part {
-    Between(usize, usize),
-    End,
+// The place behind the numbers that a word says, and what is wrong with it.
+struct Laid {
+    behind: usize,
+    flaw: Flaw,
 }
 
-// The number that a text says.
-enum WholeNumber {
-    Number(u64),
-    NoNumber,
-}
-
-enum KeptNumber {
-    Number(Kept),
-    NoNumber,
-}
-
-// The question that a word names, or the kind of record.
-enum Asked {
-    Question(Question),
-    NoQuestion,
-}
-
-// The number that the next word says, and the place behind the word.
-enum WholeTold {
-    Number(u64, usize),
-    Wrong(Fault),
-}
-
-enum KeptTold {
-    Number(Kept, usize),
-    Wrong(Fault),
-}
-
-// The number that the next field says, and the place behind the field.
-enum WholeField {
-    Number(u64, usize),
-    Flawed(Flaw),
-}
-
-enum KeptField {
-    Number(Kept, usize),
-    Flawed(Flaw),
-}
-
-// What a word or its fields say, or the first flaw.
-enum PointTold {
-    Point(Point),
-    Flawed(Flaw),
-}
-
-enum BodyTold {
-    Body(Body),
-    Flawed(Flaw),
-}
-
-enum RecordTold {
-    Record(Record),
-    Flawed(Flaw),
-}
-
-// What the last word of a line says, or the fault.
-enum MinuteTold {
-    Minute(u32),
-    Wrong(Fault),
-}
-
-enum PlaceTold {
-    Place(Place),
-    Wrong(Fault),
-}
-
-// The points of a line; none where one is faulty.
-struct CertificateTold {
-    read: LineRead,
-    count: u32,
-    points: [Point; POINTS],
-}
-
-// The records of a line; none where one is faulty.
-struct RecordsTold {
-    read: LineRead,
-    count: usize,
-    records: [Record; RECORDS],
-}
-
-// The question that a word names.
-fn question_named(word: &[u8]) -> Asked
-    ensures { λ r. ⌜ askedAs r ≡ questionOf (now (word .entry)) ⌝ }
+// Puts a number at a place. The place behind it.
+fn put(numbers: &mut [u64], at: usize, n: u64) -> usize
+    ensures { λ r. ⌜ Put (now (numbers .entry)) (now (numbers .exit)) at (n ∷ []) r ⌝ }
 {
-    if same(word, b"pressure") {
-        return Asked::Question(Question::Pressure);
+    if at < numbers.len() {
+        numbers[at] = n;
+        return at + 1;
     }
-    if same(word, b"tendency") {
-        return Asked::Question(Question::Tendency);
-    }
-    if same(word, b"wind") {
-        return Asked::Question(Question::Wind);
-    }
-    if same(word, b"humidity") {
-        return Asked::Question(Question::Humidity);
-    }
-    Asked::NoQuestion
+    numbers.len()
 }
 
-// A minute, and no more words.
-fn last_minute(line: &[u8], at: usize) -> MinuteTold
-    ensures { λ r. ⌜ minuteAs r ≡ lastMinute (wordsAt (now (line .entry)) at) ⌝ }
+// Which of the words of a text a name is, counted from `first`.
+fn named(names: &[u8], name: &[u8], first: u64) -> Said
+    requires { ⌜ first ≤ 1 ⌝ }
+    ensures { λ r. ⌜ r ≡ named first (words (now (names .entry))) (now (name .entry)) ⌝ }
 {
-    match whole_word(line, at) {
-        WholeTold::Wrong(fault) => MinuteTold::Wrong(fault),
-        WholeTold::Number(m, behind) => {
-            if words_ended(line, behind) {
-                return MinuteTold::Minute(m as u32);
+    let mut i = first;
+    let mut at = 0;
+    loop {
+        match next_word(names, at) {
+            Part::End => {
+                return Said::NoNumber;
             }
-            MinuteTold::Wrong(Fault::WordCount)
+            Part::Between(from, to) => {
+                if same(name, &names[from..to]) {
+                    return Said::Number(i);
+                }
+                i += 1;
+                at = to;
+            }
         }
     }
 }
 
-// A word in hex, or none, and no more words.
-fn last_hex(line: &[u8], at: usize) -> PlaceTold
-    ensures { λ r. ⌜ placeAs r ≡ lastHex (wordsAt (now (line .entry)) at) ⌝ }
+// What a text says by a letter of a form.
+fn told(letter: u8, text: &[u8]) -> Said
+    ensures { λ r. ⌜ r ≡ told letter (now (text .entry)) ⌝ }
 {
-    match next_word(line, at) {
-        Part::End => PlaceTold::Place(Place { from: 0, to: 0 }),
-        Part::Between(from, to) => {
-            if !is_hex(&line[from..to]) {
-                return PlaceTold::Wrong(Fault::BadHex(Place { from, to }));
+    if letter == b'n' {
+        return whole(text, 4294967295);
+    }
+    if letter == b'h' {
+        return whole(text, 65535);
+    }
+    if letter == b'o' {
+        return whole(text, 255);
+    }
+    if letter == b'z' {
+        return signed(text);
+    }
+    if letter == b'u' {
+        return named(b"hPa mmHg", text, 0);
+    }
+    if letter == b'q' {
+        return named(b"pressure tendency wind humidity", text, 1);
+    }
+    if letter == b'f' {
+        return Said::Number(0);
+    }
+    if letter == b'x' {
+        if is_hex(text) {
+            return Said::Number(0);
+        }
+        return Said::NoNumber;
+    }
+    if same(text, &[letter]) {
+        return Said::Number(letter as u64);
+    }
+    Said::NoNumber
+}
+
+// Whether a form is one for a word: a capital at its start is the word's first field.
+fn fits(form: &[u8], word: &[u8]) -> bool
+    ensures { λ r. ⌜ r ≡ fits (now (form .entry)) (now (word .entry)) ⌝ }
+{
+    if form.len() == 0 {
+        return true;
+    }
+    if form[0] < b'A' {
+        return true;
+    }
+    if b'Z' < form[0] {
+        return true;
+    }
+    let to = field_end(word, 0);
+    same(&word[0..to], &form[0..1])
+}
+
+// Puts what the fields of a word say by the letters of a form. A point stands for 0, and for no field.
+fn lay_fields(form: &[u8], word: &[u8], numbers: &mut [u64], at: usize) -> Laid
+    requires { ⌜ at ≤ length (now numbers) ⌝ }
+    ensures { λ r. ⌜ Lays (now (numbers .entry)) (now (numbers .exit)) at (fieldsTold (now (form .entry)) (fields (now (word .entry)))) r ⌝ }
+{
+    let mut place = at;
+    let mut from = 0;
+    let mut i = 0;
+    while i < form.len() {
+        let letter = form[i];
+        if letter == b'.' {
+            place = put(numbers, place, 0);
+            i += 1;
+            continue;
+        }
+        if word.len() < from {
+            return Laid {
+                behind: place,
+                flaw: Flaw::Misshapen,
+            };
+        }
+        let to = field_end(word, from);
+        match told(letter, &word[from..to]) {
+            Said::NoNumber => {
+                return Laid {
+                    behind: place,
+                    flaw: Flaw::NotSuch(letter),
+                };
             }
-            if words_ended(line, to) {
-                return PlaceTold::Place(Place { from, to });
+            Said::Number(n) => {
+                place = put(numbers, place, n);
+                from = to + 1;
+                i += 1;
             }
-            PlaceTold::Wrong(Fault::WordCount)
+        }
+    }
+    if word.len() < from {
+        return Laid {
+            behind: place,
+            flaw: Flaw::NoFlaw,
+        };
+    }
+    Laid {
+        behind: place,
+        flaw: Flaw::Misshapen,
+    }
+}
+
+// Puts what a word of a list says, by the first of the forms from a place on that is one for it.
+fn lay_listed(forms: &[u8], at: usize, word: &[u8], numbers: &mut [u64], place: usize) -> Laid
+    requires { ⌜ place ≤ length (now numbers) ⌝ }
+    ensures { λ r. ⌜ Lays (now (numbers .entry)) (now (numbers .exit)) place (listTold (fieldsAt (now (forms .entry)) at) (now (word .entry))) r ⌝ }
+{
+    let mut from = at;
+    while from <= forms.len() {
+        let to = field_end(forms, from);
+        let form = &forms[from..to];
+        if fits(form, word) {
+            return lay_fields(form, word, numbers, place);
+        }
+        from = to + 1;
+    }
+    Laid {
+        behind: place,
+        flaw: Flaw::Misshapen,
+    }
+}
+
+// Puts what a word says that has a number behind the name, by the letters of a form, of which the first `fixed` stand for a word each.
+fn lay_word(
+    form: &[u8],
+    fixed: usize,
+    number: usize,
+    word: &[u8],
+    numbers: &mut [u64],
+    place: usize,
+) -> Laid
+    requires { ⌜ (fixed ≡ length (field (now form))) × (place ≤ length (now numbers)) ⌝ }
+    ensures { λ r. ⌜ Lays (now (numbers .entry)) (now (numbers .exit)) place (wordTold (now (form .entry)) number (now (word .entry))) r ⌝ }
+{
+    if number < fixed {
+        let letter = form[number];
+        return match told(letter, word) {
+            Said::NoNumber => Laid {
+                behind: place,
+                flaw: Flaw::NotSuch(letter),
+            },
+            Said::Number(n) => Laid {
+                behind: put(numbers, place, n),
+                flaw: Flaw::NoFlaw,
+            },
+        };
+    }
+    if fixed == form.len() {
+        return Laid {
+            behind: place,
+            flaw: Flaw::LeftOver,
+        };
+    }
+    lay_listed(form, fixed + 1, word, numbers, place)
+}
+
+// Puts what the words from a place on say by a form, up to the first fault.
+fn lay_line(verb: Verb, form: &[u8], line: &[u8], at: usize, numbers: &mut [u64]) -> Command
+    ensures { λ r. ⌜ Parses (now (numbers .entry)) (now (numbers .exit)) (lineTold verb (now (form .entry)) 0 (wordsAt (now (line .entry)) at)) r ⌝ }
+{
+    let fixed = field_end(form, 0);
+    let mut here = at;
+    let mut count: usize = 0;
+    let mut place = 0;
+    loop {
+        match next_word(line, here) {
+            Part::End => {
+                if count < fixed {
+                    if form[count] != b'x' {
+                        return Command::Wrong(Fault::WordCount);
+                    }
+                }
+                return Command::Does(verb, count);
+            }
+            Part::Between(from, to) => {
+                let laid = lay_word(form, fixed, count, &line[from..to], numbers, place);
+                let flaw = laid.flaw;
+                match flaw {
+                    Flaw::NoFlaw => {
+                        place = laid.behind;
+                        count += 1;
+                        here = to;
+                    }
+                    Flaw::NotSuch(letter) => {
+                        return Command::Wrong(Fault::NotSuch(letter, Place { from, to }));
+                    }
+                    Flaw::Misshapen => {
+                        return Command::Wrong(Fault::Misshapen(Place { from, to }));
+                    }
+                    Flaw::LeftOver => {
+                        return Command::Wrong(Fault::WordCount);
+                    }
+                }
+            }
         }
     }
 }
 
-// A word, and no more words.
-fn last_word(line: &[u8], at: usize) -> PlaceTold
-    ensures { λ r. ⌜ placeAs r ≡ lastWord (wordsAt (now (line .entry)) at) ⌝ }
+// The verb of a row of the table.
+fn verb_at(row: usize) -> Verb
+    ensures { λ r. ⌜ r ≡ verbAt row ⌝ }
 {
-    match next_word(line, at) {
-        Part::End => PlaceTold::Wrong(Fault::WordCount),
-        Part::Between(from, to) => {
-            if words_ended(line, to) {
-                return PlaceTold::Place(Place { from, to });
-            }
-            PlaceTold::Wrong(Fault::WordCount)
-        }
+    let verbs = [
+        Verb::Open,
+        Verb::Hear,
+        Verb::Pressure,
+        Verb::Tendency,
+        Verb::Wind,
+        Verb::Humidity,
+        Verb::Read,
+        Verb::Write,
+        Verb::FeedFile,
+        Verb::Log,
+        Verb::SaveFile,
+        Verb::ListFile,
+    ];
+    if row < 12 {
+        return verbs[row];
     }
+    Verb::Help
 }
 
-// The command with what was told, or the fault; so also the six behind it.
-fn ask(q: Question, told: MinuteTold) -> Command
-    ensures { λ r. ⌜ r ≡ commandAs (commandWith (Command.Ask q) (minuteAs told)) ⌝ }
-{
-    match told {
-        MinuteTold::Minute(m) => Command::Ask(q, m),
-        MinuteTold::Wrong(fault) => Command::Wrong(fault),
-    }
-}
-
-fn log(q: Question, told: MinuteTold) -> Command
-    ensures { λ r. ⌜ r ≡ commandAs (commandWith (Command.Log q) (minuteAs told)) ⌝ }
-{
-    match told {
-        MinuteTold::Minute(m) => Command::Log(q, m),
-        MinuteTold::Wrong(fault) => Command::Wrong(fault),
-    }
-}
-
-fn hear(told: PlaceTold) -> Command
-    ensures { λ r. ⌜ r ≡ commandAs (commandWith Command.Hear (placeAs told)) ⌝ }
-{
-    match told {
-        PlaceTold::Place(p) => Command::Hear(p),
-        PlaceTold::Wrong(fault) => Command::Wrong(fault),
-    }
-}
-
-fn read(told: PlaceTold) -> Command
-    ensures { λ r. ⌜ r ≡ commandAs (commandWith Command.Read (placeAs told)) ⌝ }
-{
-    match told {
-        PlaceTold::Place(p) => Command::Read(p),
-        PlaceTold::Wrong(fault) => Command::Wrong(fault),
-    }
-}
-
-fn feed(told: PlaceTold) -> Command
-    ensures { λ r. ⌜ r ≡ commandAs (commandWith Command.FeedFile (placeAs told)) ⌝ }
-{
-    match told {
-        PlaceTold::Place(p) => Command::FeedFile(p),
-        PlaceTold::Wrong(fault) => Command::Wrong(fault),
-    }
-}
-
-fn save(told: PlaceTold) -> Command
-    ensures { λ r. ⌜ r ≡ commandAs (commandWith Command.SaveFile (placeAs told)) ⌝ }
-{
-    match told {
-        PlaceTold::Place(p) => Command::SaveFile(p),
-        PlaceTold::Wrong(fault) => Command::Wrong(fault),
-    }
-}
-
-fn list(told: PlaceTold) -> Command
-    ensures { λ r. ⌜ r ≡ commandAs (commandWith Command.ListFile (placeAs told)) ⌝ }
-{
-    match told {
-        PlaceTold::Place(p) => Command::ListFile(p),
-        PlaceTold::Wrong(fault) => Command::Wrong(fault),
-    }
-}
-
-fn help(ended: bool) -> Command
-    ensures { λ r. ⌜ r ≡ cond ended Command.Help (Command.Wrong Fault.WordCount) ⌝ }
-{
-    if ended {
-        return Command::Help;
-    }
-    Command::Wrong(Fault::WordCount)
-}
-
-// The question and the minute behind `log`.
-fn log_question(line: &[u8], at: usize) -> Command
-    ensures { λ r. ⌜ r ≡ commandAs (logged (wordsAt (now (line .entry)) at)) ⌝ }
-{
-    match next_word(line, at) {
-        Part::End => Command::Wrong(Fault::WordCount),
-        Part::Between(from, to) => match question_named(&line[from..to]) {
-            Asked::Question(q) => log(q, last_minute(line, to)),
-            Asked::NoQuestion => Command::Wrong(Fault::NotAQuestion(Place { from, to })),
-        },
-    }
-}
-
-// The commands for people besides. The first word stands from a place to another.
-fn people_command(line: &[u8], from: usize, to: usize) -> Command
-    requires { ⌜ (from ≤ to) × (to ≤ length (now line)) ⌝ }
-    ensures { λ r. ⌜ r ≡ commandAs (peopleCommand (wordAt (now (line .entry)) from to) (wordsAt (now (line .entry)) to)) ⌝ }
-{
-    let word = &line[from..to];
-    if same(word, b"feed") {
-        return feed(last_word(line, to));
-    }
-    if same(word, b"log") {
-        return log_question(line, to);
-    }
-    if same(word, b"save") {
-        return save(last_word(line, to));
-    }
-    if same(word, b"list") {
-        return list(last_word(line, to));
-    }
-    if same(word, b"help") {
-        return help(words_ended(line, to));
-    }
-    Command::Wrong(Fault::NotACommand(Place { from, to }))
-}
-
-// The commands of the station other than the questions.
-fn station_command(line: &[u8], from: usize, to: usize) -> Command
-    requires { ⌜ (from ≤ to) × (to ≤ length (now line)) ⌝ }
-    ensures { λ r. ⌜ r ≡ commandAs (stationCommand (wordAt (now (line .entry)) from to) (wordsAt (now (line .entry)) to)) ⌝ }
-{
-    let word = &line[from..to];
-    if same(word, b"open") {
-        return Command::Open;
-    }
-    if same(word, b"hear") {
-        return hear(last_hex(line, to));
-    }
-    if same(word, b"read") {
-        return read(last_hex(line, to));
-    }
-    if same(word, b"write") {
-        return Command::Write;
-    }
-    people_command(line, from, to)
-}
-
-// The command of a line with a word. The first word stands from a place to another.
-fn first_command(line: &[u8], from: usize, to: usize) -> Command
+// The command of the row whose name the first word is, which stands from a place to another.
+fn by_table(table: &[u8], line: &[u8], from: usize, to: usize, numbers: &mut [u64]) -> Command
     requires { ⌜ (from < to) × (to ≤ length (now line)) ⌝ }
-    ensures { λ r. ⌜ r ≡ commandAs (commandFrom (wordAt (now (line .entry)) from to ∷ wordsAt (now (line .entry)) to)) ⌝ }
+    ensures { λ r. ⌜ Parses (now (numbers .entry)) (now (numbers .exit)) (byTable (rowsOf 0 (words (now (table .entry)))) (wordAt (now (line .entry)) from to) (wordsAt (now (line .entry)) to)) r ⌝ }
 {
-    if line[from] == b'#' {
-        return Command::Nothing;
-    }
-    match question_named(&line[from..to]) {
-        Asked::Question(q) => ask(q, last_minute(line, to)),
-        Asked::NoQuestion => station_command(line, from, to),
+    let mut at = 0;
+    let mut row: usize = 0;
+    loop {
+        match next_word(table, at) {
+            Part::End => {
+                return Command::Wrong(Fault::NotACommand(Place { from, to }));
+            }
+            Part::Between(a, b) => match next_word(table, b) {
+                Part::End => {
+                    return Command::Wrong(Fault::NotACommand(Place { from, to }));
+                }
+                Part::Between(c, d) => {
+                    if same(&line[from..to], &table[a..b]) {
+                        let form = c + 1;
+                        return lay_line(verb_at(row), &table[form..d], line, to, numbers);
+                    }
+                    row += 1;
+                    at = d;
+                }
+            },
+        }
     }
 }
 
-// The command of a line, or its first fault from the left.
-pub fn parse(line: &[u8]) -> Command
-    ensures { λ r. ⌜ r ≡ commandOf (now (line .entry)) ⌝ }
+// The command of a line, or its first fault from the left. `numbers` has at its start what the words say that stand before the fault.
+pub fn parse(line: &[u8], numbers: &mut [u64]) -> Command
+    ensures { λ r. ⌜ Parses (now (numbers .entry)) (now (numbers .exit)) (commandOf (now (line .entry))) r ⌝ }
 {
     match next_word(line, 0) {
         Part::End => Command::Nothing,
-        Part::Between(from, to) => first_command(line, from, to),
+        Part::Between(from, to) => {
+            if line[from] == b'#' {
+                return Command::Nothing;
+            }
+            by_table(
+                b"open =uzzzz:zz \
+                hear =x \
+                pressure =n \
+                tendency =n \
+                wind =n \
+                humidity =n \
+                read =x \
+                write =n:Pnh....:Tnzo...:Wnhh...:Hnhhhoz \
+                feed =f \
+                log =qn \
+                save =f \
+                list =f \
+                help = ",
+                line,
+                from,
+                to,
+                numbers,
+            )
+        }
     }
 }
 
-// The settings that the words behind the first one of a line say: of an `open` line.
-pub fn open_line(line: &[u8]) -> OpenLine
-    ensures { λ r. ⌜ r ≡ openLine (now (line .entry)) ⌝ }
+// The settings that the numbers of an `open` line say, which has so many words behind the name.
+pub fn settings_of(numbers: &[u64], words: usize) -> Settings
+    ensures { λ r. ⌜ r ≡ settingsOf (now (numbers .entry)) words ⌝ }
 {
-    match next_word(line, 0) {
-        Part::End => not_open(Fault::WordCount),
-        Part::Between(_, to) => open_unit(line, to),
+    let zero = Kept { v: 0 };
+    let nowhere = Point {
+        reading: zero,
+        correction: Correction(zero),
+    };
+    let mut points = [nowhere; POINTS];
+    let mut i = 0;
+    while i < POINTS {
+        let point = point_of(numbers, words, i);
+        points[i] = point;
+        i += 1;
+    }
+    Settings {
+        unit: unit_of(at(numbers, 0)),
+        height: Height(kept_at(numbers, 1)),
+        difference: SeaLevelDifference(kept_at(numbers, 2)),
+        coefficient: TemperatureCoefficient(kept_at(numbers, 3)),
+        psychrometer: PsychrometerCoefficient(kept_at(numbers, 4)),
+        count: count_of(words),
+        points,
     }
 }
 
-// The room and the records that the words behind the first one of a line say: of a `write` line.
-pub fn write_line(line: &[u8]) -> WriteLine
-    ensures { λ r. ⌜ r ≡ writeLine (now (line .entry)) ⌝ }
+// The records that the numbers of a `write` line say, which has so many words behind the name.
+pub fn records_of(numbers: &[u64], words: usize) -> [Record; RECORDS]
+    ensures { λ r. ⌜ r ≡ recordsOf (now (numbers .entry)) words ⌝ }
 {
-    match next_word(line, 0) {
-        Part::End => not_written(Fault::WordCount),
-        Part::Between(_, to) => write_room(line, to),
+    let blank = Record {
+        minute: 0,
+        body: Body::Pressure(0),
+    };
+    let mut records = [blank; RECORDS];
+    let mut i = 0;
+    while i < RECORDS {
+        let record = record_of(numbers, words, i);
+        records[i] = record;
+        i += 1;
     }
-}
-
-// The bytes that a word in hex says, at the start of a lent buffer: how many.
-pub fn unhex(word: &[u8], bytes: &mut [u8]) -> Unhexed
-    ensures { λ r. ⌜ Unhexes (now (word .entry)) (now (bytes .entry)) (now (bytes .exit)) r ⌝ }
-{
-    if !is_hex(word) {
-        return Unhexed::NotHex;
-    }
-    let count = word.len() / 2;
-    if bytes.len() < count {
-        return Unhexed::NoRoom;
-    }
-    lay(word, bytes);
-    Unhexed::Bytes(count)
+    records
 }

@@ -138,11 +138,24 @@ use Rattle.answer.proofs.put_tendency.Reads as answer-put-tendency
 use Rattle.answer.proofs.put_wind.Reads as answer-put-wind
 use Rattle.answer.proofs.put_humidity.Reads as answer-put-humidity
 use Rattle.answer.proofs.put_written.Reads as answer-put-written
+use Rattle.line.proofs.SingleAnswers as line
+use Rattle.line.proofs.next_word.Reads as line-next-word
+use Rattle.line.proofs.field_end.Reads as line-field-end
+use Rattle.line.proofs.same.Reads as line-same
+use Rattle.line.proofs.whole.Reads as line-whole
+use Rattle.line.proofs.signed.Reads as line-signed
+use Rattle.hex.proofs.SingleAnswers as hex
+use Rattle.hex.proofs.is_hex.Reads as hex-is-hex
+use Rattle.hex.proofs.unhex.Reads as hex-unhex
+use Rattle.hex.proofs.put_hex.Reads as hex-put-hex
 use Rattle.command.proofs.SingleAnswers as command
 use Rattle.command.proofs.parse.Reads as command-parse
-use Rattle.command.proofs.open_line.Reads as command-open-line
-use Rattle.command.proofs.write_line.Reads as command-write-line
-use Rattle.command.proofs.unhex.Reads as command-unhex
+use Rattle.command.proofs.settings_of.Reads as command-settings-of
+use Rattle.command.proofs.records_of.Reads as command-records-of
+use Rattle.notice.proofs.SingleAnswers as notice
+use Rattle.notice.proofs.put_help.Reads as notice-put-help
+use Rattle.notice.proofs.put_fault.Reads as notice-put-fault
+use Rattle.notice.proofs.put_counts.Reads as notice-put-counts
 use Rattle.told.proofs.SingleAnswers as told
 use Rattle.told.proofs.settings_of.Reads as told-settings-of
 use Rattle.told.proofs.opening_number.Reads as told-opening-number
@@ -332,12 +345,31 @@ pub record OneAnswerEach : Type 0 where
   pub answer-put-humidity-left : SingleLeft answer-put-humidity.Post (λ κs s. s .0 .now)
   pub answer-put-written-single : Single answer-put-written.Post
   pub answer-put-written-left : SingleLeft answer-put-written.Post (λ κs s. s .0 .now)
+  -- line
+  pub line-next-word-single : Single line-next-word.Post
+  pub line-word-single : line.SingleWord
+  pub line-field-end-single : Single line-field-end.Post
+  pub line-same-single : Single line-same.Post
+  pub line-whole-single : Single line-whole.Post
+  pub line-signed-single : Single line-signed.Post
+  -- hex
+  pub hex-is-hex-single : Single hex-is-hex.Post
+  pub hex-unhex-single : Single hex-unhex.Post
+  pub hex-unhex-left : SingleLeft hex-unhex.Post (λ κs s. s .1 .0 .now)
+  pub hex-put-hex-single : Single hex-put-hex.Post
+  pub hex-put-hex-left : SingleLeft hex-put-hex.Post (λ κs s. s .0 .now)
   -- command
   pub command-parse-single : Single command-parse.Post
-  pub command-open-line-single : Single command-open-line.Post
-  pub command-write-line-single : Single command-write-line.Post
-  pub command-unhex-single : Single command-unhex.Post
-  pub command-unhex-left : SingleLeft command-unhex.Post (λ κs s. s .1 .0 .now)
+  pub command-parse-left : SingleLeft command-parse.Post (λ κs s. s .1 .0 .now)
+  pub command-settings-of-single : Single command-settings-of.Post
+  pub command-records-of-single : Single command-records-of.Post
+  -- notice
+  pub notice-put-help-single : Single notice-put-help.Post
+  pub notice-put-help-left : SingleLeft notice-put-help.Post (λ κs s. s .0 .now)
+  pub notice-put-fault-single : Single notice-put-fault.Post
+  pub notice-put-fault-left : SingleLeft notice-put-fault.Post (λ κs s. s .0 .now)
+  pub notice-put-counts-single : Single notice-put-counts.Post
+  pub notice-put-counts-left : SingleLeft notice-put-counts.Post (λ κs s. s .0 .now)
   -- told
   pub told-settings-of-single : Single told-settings-of.Post
   pub told-opening-number-single : Single told-opening-number.Post
@@ -511,11 +543,27 @@ one-answer-each =
       answer-put-humidity-left = answer.single-put-humidity-text;
       answer-put-written-single = answer.single-put-written;
       answer-put-written-left = answer.single-put-written-text;
+      line-next-word-single = line.single-next-word;
+      line-word-single = line.single-word;
+      line-field-end-single = line.single-field-end;
+      line-same-single = line.single-same;
+      line-whole-single = line.single-whole;
+      line-signed-single = line.single-signed;
+      hex-is-hex-single = hex.single-is-hex;
+      hex-unhex-single = hex.single-unhex;
+      hex-unhex-left = hex.single-unhex-bytes;
+      hex-put-hex-single = hex.single-put-hex;
+      hex-put-hex-left = hex.single-put-hex-text;
       command-parse-single = command.single-parse;
-      command-open-line-single = command.single-open-line;
-      command-write-line-single = command.single-write-line;
-      command-unhex-single = command.single-unhex;
-      command-unhex-left = command.single-unhex-bytes;
+      command-parse-left = command.single-parse-numbers;
+      command-settings-of-single = command.single-settings-of;
+      command-records-of-single = command.single-records-of;
+      notice-put-help-single = notice.single-put-help;
+      notice-put-help-left = notice.single-put-help-text;
+      notice-put-fault-single = notice.single-put-fault;
+      notice-put-fault-left = notice.single-put-fault-text;
+      notice-put-counts-single = notice.single-put-counts;
+      notice-put-counts-left = notice.single-put-counts-text;
       told-settings-of-single = told.single-settings-of;
       told-opening-number-single = told.single-opening-number;
       told-hearing-number-single = told.single-hearing-number;

@@ -7,8 +7,8 @@ use lib.ListN.{length, drop}
 use borrow.Author.Needs.{needs}
 use Rattle.text.specs.Text.{field, Put}
 use Rattle.text.proofs.PutLaws.{put-inside}
-use Rattle.answer.specs.Row.{row}
-use Rattle.answer.proofs.RowLaws.{put-next, put-last}
+use Rattle.hex.specs.Row.{row}
+use Rattle.hex.proofs.RowLaws.{put-next, put-last}
 use Rattle.answer.proofs.put_fields.Statement.{statement}
 use Rattle.answer.proofs.put_fields.Tie as tie
 

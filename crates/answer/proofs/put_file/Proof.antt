@@ -1,6 +1,5 @@
 -- `put_file` meets its contract: the word, the bytes and the end of the line, one behind the other. Assumes nothing.
-use native.Mathlib.Omega.{arith}
-use Rattle.text.proofs.PutLaws.{join, put-inside}
+use Rattle.text.proofs.PutLaws.{join}
 use borrow.Author.Needs.{needs}
 use Rattle.answer.proofs.put_file.Statement.{statement}
 use Rattle.answer.proofs.put_file.Tie as tie
@@ -12,7 +11,7 @@ put-bytes-requires : tie.Need-put-bytes-requires
 put-bytes-requires c κs = search needs
 
 put-hex-requires : tie.Need-put-hex-requires
-put-hex-requires c κs = let z = put-inside (c .before .before .before .put-bytes .ensures) in omega arith
+put-hex-requires c κs = search needs
 
 put-byte-requires : tie.Need-put-byte-requires
 put-byte-requires c κs = search needs

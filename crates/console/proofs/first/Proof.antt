@@ -1,12 +1,9 @@
--- Every index is within its bounds, and the work ends. Assumes nothing.
+-- The part ends within the bytes. Assumes nothing.
 use native.Mathlib.Omega.{arith}
 use lib.ListN.{length-take}
 use borrow.Author.Needs.{needs}
 use Rattle.console.proofs.first.Statement.{statement}
 use Rattle.console.proofs.first.Tie as tie
-use Rattle.console.proofs.first.Reads as reads
-use Rattle.console.proofs.first.Lts as lts
-use Rattle.console.proofs.smaller.Reads as smaller-reads
 
 smaller-requires : tie.Need-smaller-requires
 smaller-requires c κs = search needs

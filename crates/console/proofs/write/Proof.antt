@@ -4,13 +4,12 @@ use lib.ListN.{length-take}
 use borrow.Author.Needs.{needs}
 use Rattle.console.proofs.write.Statement.{statement}
 use Rattle.console.proofs.write.Tie as tie
-use Rattle.console.proofs.write.Reads as reads
-use Rattle.console.proofs.write.Lts as lts
-use Rattle.answer.proofs.put_written.Reads as put-written-reads
-use Rattle.console.proofs.first.Reads as first-reads
-use Rattle.console.proofs.length_of.Reads as length-of-reads
-use Rattle.console.proofs.smaller.Reads as smaller-reads
-use Rattle.writer.proofs.write.Reads as write-reads
+
+records-of-requires : tie.Need-records-of-requires
+records-of-requires c κs = search needs
+
+sub-count : tie.Need-sub-count
+sub-count c = search needs
 
 smaller-requires : tie.Need-smaller-requires
 smaller-requires c κs = search needs
@@ -19,13 +18,16 @@ slice-relend-prefix-write : tie.Need-slice-relend-prefix-write
 slice-relend-prefix-write c = search needs
 
 slice-aggregate-write : tie.Need-slice-aggregate-write
-slice-aggregate-write c = omega (arith, length-take (c .before .smaller .result) (c .before .before .before .before .args .bytes .now), c .before .smaller .ensures)
+slice-aggregate-write c = omega (arith, length-take (c .before .smaller .result) (c .before .before .before .before .before .before .args .file .now), c .before .smaller .ensures)
 
 write-requires : tie.Need-write-requires
 write-requires c κs = search needs
 
-length-of-requires : tie.Need-length-of-requires
-length-of-requires c κs = search needs
+enum-known-r : tie.Need-enum-known-r
+enum-known-r c = search needs
+
+slice-aggregate-put-written : tie.Need-slice-aggregate-put-written
+slice-aggregate-put-written c = search needs
 
 first-requires : tie.Need-first-requires
 first-requires c κs = search needs
@@ -33,11 +35,20 @@ first-requires c κs = search needs
 put-written-requires : tie.Need-put-written-requires
 put-written-requires c κs = search needs
 
+slice-aggregate-put-written-2 : tie.Need-slice-aggregate-put-written-2
+slice-aggregate-put-written-2 c = search needs
+
+slice-aggregate-put-written-3 : tie.Need-slice-aggregate-put-written-3
+slice-aggregate-put-written-3 c = search needs
+
+put-written-requires-2 : tie.Need-put-written-requires-2
+put-written-requires-2 c κs = search needs
+
+tell-requires : tie.Need-tell-requires
+tell-requires c κs = search needs
+
 same-length : tie.Need-same-length
 same-length c = search needs
-
-same-length-2 : tie.Need-same-length-2
-same-length-2 c = search needs
 
 returns : tie.Need-returns
 returns c = search needs
@@ -46,13 +57,19 @@ pub write-spec : {M : Type 1} → statement M
 write-spec =
     tie.close
     (tie.spec
+    records-of-requires
+    sub-count
     smaller-requires
     slice-relend-prefix-write
     slice-aggregate-write
     write-requires
-    length-of-requires
+    enum-known-r
+    slice-aggregate-put-written
     first-requires
     put-written-requires
+    slice-aggregate-put-written-2
+    slice-aggregate-put-written-3
+    put-written-requires-2
+    tell-requires
     same-length
-    same-length-2
     returns)

@@ -1,0 +1,3 @@
+pub mod HexLaws
+pub mod RowLaws
+pub mod SingleAnswers

@@ -1,0 +1,4 @@
+pub mod WordLaws
+pub mod FieldLaws
+pub mod NumeralLaws
+pub mod SingleAnswers
