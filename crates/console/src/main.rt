@@ -2,9 +2,9 @@
 // `command` and an answer text in `answer`, records and messages are `desk`'s; here is what reads, calls and writes.
 ghost use mathlib.Core.Path.{_≡_};
 ghost use Prim.Native.Nat.{min};
+use block::Store;
 use command::Command;
 use command::Verb;
-use store::Store;
 
 // The longest line. The most bytes that it says in hex, so `unhex` finds room; more than any answer and any watch file.
 const LINE: usize = 8192;
@@ -216,7 +216,7 @@ fn answer_line(bytes: &[u8], n: usize, store: &mut Store, file: &mut [u8], log: 
 }
 
 fn main() {
-    let mut store = [0u64; store::WORDS];
+    let mut store = [0u64; block::WORDS];
     let mut file = [0u8; BYTES];
     let mut input = [0u8; BYTES];
     let mut line = [0u8; LINE];

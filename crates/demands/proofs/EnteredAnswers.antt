@@ -12,7 +12,7 @@ use Rattle.station.specs.declared.PressureAnswer.the-variants as pressure
 use Rattle.station.specs.declared.TendencyAnswer.the-variants as tendency
 use Rattle.station.specs.declared.WindAnswer.the-variants as wind
 use Rattle.station.specs.declared.HumidityAnswer.the-variants as humidity
-use Rattle.station.proofs.StoreLaws.{pressure-by-messages, tendency-by-messages, wind-by-messages, humidity-by-messages}
+use Rattle.heard.proofs.StoreLaws.{pressure-by-messages, tendency-by-messages, wind-by-messages, humidity-by-messages}
 use Rattle.watchfile.proofs.DewRules.{the-rule}
 use Rattle.desk.specs.Records.{pressureRecord, tendencyRecord, windRecord, humidityRecord}
 use Rattle.desk.specs.Entries.{pressureEntry, tendencyEntry, windEntry, humidityEntry}

@@ -13,7 +13,7 @@ use denote.Ref.{RefT}
 use Rattle.number.specs.Refusal.{Answer, given}
 use Rattle.settings.specs.Settings.{checked}
 use Rattle.settings.specs.declared.Settings.{Settings}
-use Rattle.store.specs.Layout.{WORDS}
+use Rattle.block.specs.Layout.{WORDS}
 use Rattle.store.specs.Block.{hearing, heardBy, outcome, recallOf}
 use Rattle.store.specs.History.{isPresent, store-of}
 use Rattle.store.proofs.OpenLaws.{opens}
@@ -27,7 +27,7 @@ use Rattle.station.specs.declared.PressureAnswer.{PressureAnswer}
 use Rattle.station.specs.declared.TendencyAnswer.{TendencyAnswer}
 use Rattle.station.specs.declared.WindAnswer.{WindAnswer}
 use Rattle.station.specs.declared.HumidityAnswer.{HumidityAnswer}
-use Rattle.station.proofs.StoreLaws.{pressure-by-messages, tendency-by-messages, wind-by-messages, humidity-by-messages}
+use Rattle.heard.proofs.StoreLaws.{pressure-by-messages, tendency-by-messages, wind-by-messages, humidity-by-messages}
 use Rattle.station.proofs.SingleAnswers.{one-pressure, one-tendency, one-wind, one-humidity-answer}
 use Rattle.demands.specs.EmptyPrograms.{Program, Meets, Use, blockOf, openingIn, hearingIn, pressureIn, tendencyIn, changeOf, changeIn, windIn, humidityIn, Refuses, Constant, StoresNothing, StoresOnlyTheFirst, InventsTheCount}
 use Rattle.demands.proofs.WatchAnswers as watch

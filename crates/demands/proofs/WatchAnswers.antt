@@ -42,7 +42,7 @@ use Rattle.station.specs.declared.WindAnswer.{WindAnswer}
 use Rattle.station.specs.declared.WindAnswer.the-variants as wind
 use Rattle.station.specs.declared.HumidityAnswer.{HumidityAnswer}
 use Rattle.station.specs.declared.HumidityAnswer.the-variants as humidity
-use Rattle.station.proofs.RefusalsInOrder.{message-by-messages}
+use Rattle.heard.proofs.RefusalsInOrder.{message-by-messages}
 use Rattle.watchfile.specs.Bytes.{bytes32}
 
 -- ---- settings and messages

@@ -6,7 +6,7 @@ use Prim.Native.Nat.{ℕ}
 use lib.IntN.{ℤ}
 use denote.Ref.{now, at-last}
 use Rattle.number.specs.Refusal.{Numbered, Answer, refused, given}
-use Rattle.message.specs.Bytes.{channel}
+use Rattle.wire.specs.Bytes.{channel}
 use Rattle.settings.specs.Settings.{checkedAs}
 use Rattle.settings.specs.declared.Settings.{Settings}
 use Rattle.settings.specs.declared.Checked.{Checked}

@@ -11,8 +11,8 @@ use lib.ListN.{length, getD, take, drop, set, length-drop, length-append, drop-o
 use lib.Seq.{drop-drop, take-at, drop-at, take-all, lt-length-set, getD-set-same, getD-set-other}
 use borrow.Author.Tests.{eqb-true, eqb-false}
 use Rattle.number.specs.Refusal.{Answer, refused, given}
-use Rattle.message.specs.declared.MessageRefusal.{MessageRefusal}
-use Rattle.message.specs.declared.MessageRefusal.the-variants.{NotSixteenBytes, NoSuchChannel, ByteNotZero, WetBulbNotWater, MinuteTooLate, NotFinite, OutsideLimits}
+use Rattle.wire.specs.declared.MessageRefusal.{MessageRefusal}
+use Rattle.wire.specs.declared.MessageRefusal.the-variants.{NotSixteenBytes, NoSuchChannel, ByteNotZero, WetBulbNotWater, MinuteTooLate, NotFinite, OutsideLimits}
 use Rattle.message.specs.Receive.{Entry}
 use Rattle.settings.specs.declared.Settings.{Settings}
 use Rattle.store.specs.Block.{hearing, heardBy, heardAs, outcome, Hears}

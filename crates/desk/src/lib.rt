@@ -10,7 +10,7 @@ ghost use Rattle.store.specs.Block.{heardAs};
 ghost use Rattle.desk.specs.Entries.{pressureEntry, tendencyEntry, windEntry, humidityEntry};
 ghost use Rattle.desk.specs.Placing.{inserted, placedAs, writingAll, placing, Leaves, placeOf, pushed};
 ghost use Rattle.desk.specs.Counting.{messages, numberIn, HearsAll};
-use message::MessageRefusal;
+use block::Store;
 use number::Number;
 use reader::Verdict;
 use station::HumidityAnswer;
@@ -18,10 +18,10 @@ use station::PressureAnswer;
 use station::TendencyAnswer;
 use station::WindAnswer;
 use store::Hearing;
-use store::Store;
 use watchfile::Body;
 use watchfile::RECORDS;
 use watchfile::Record;
+use wire::MessageRefusal;
 use writer::Written;
 
 // ---- messages, heard and counted

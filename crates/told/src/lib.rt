@@ -6,7 +6,6 @@ ghost use Rattle.store.specs.Block.{heardAs};
 ghost use Rattle.station.specs.Told.{refusalOf, pressureAs, tendencyAs, windAs, humidityAs};
 ghost use Rattle.told.specs.Told.{numberOf, refusalIn, pressureIn, tendencyIn, windIn, humidityIn};
 ghost use Rattle.told.specs.Opening.{unitIn, settingsIn};
-use message::MessageRefusal;
 use number::Kept;
 use number::Number;
 use quantity::BarometerUnit;
@@ -24,6 +23,7 @@ use station::QuestionRefusal;
 use station::TendencyAnswer;
 use station::WindAnswer;
 use store::Hearing;
+use wire::MessageRefusal;
 
 // The settings of a store. The unit is 0 for hPa and 1 for mm Hg.
 #[repr(C)]

@@ -1,6 +1,6 @@
 -- `read_at` meets its contract: the figures of what the store recalls. Assumes nothing.
 use mathlib.Core.Path.{sym, ap, subst, _∙_}
-use Rattle.store.specs.Block.{Recall, recalledAs}
+use Rattle.cell.specs.Cells.{Recall, recalledAs}
 use Rattle.store.specs.History.{isPresent}
 use Rattle.station.specs.Parts.{Reads}
 use borrow.Author.Needs.{needs}
