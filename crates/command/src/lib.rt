@@ -384,7 +384,8 @@ fn by_table(table: &[u8], line: &[u8], from: usize, to: usize, numbers: &mut [u6
     }
 }
 
-// The command of a line, or its first fault from the left. `numbers` has at its start what the words say that stand before the fault.
+// The command of a line, or its first fault from the left. `numbers` has at its start what the words and fields say that stand
+// before the fault, as far as there is room: a number a word, and for a word of a list as many as its form has letters.
 pub fn parse(line: &[u8], numbers: &mut [u64]) -> Command
     ensures { λ r. ⌜ Parses (now (numbers .entry)) (now (numbers .exit)) (commandOf (now (line .entry))) r ⌝ }
 {
