@@ -3,7 +3,7 @@
 use mathlib.Core.Path.{_≡_, refl, sym, ap, _∙_}
 use mathlib.Core.Bool.{Bool, true, false, cond}
 use mathlib.Core.List.{List, [], _∷_, _++_}
-use Prim.Native.Nat.{ℕ, suc, _+_, _-_, _≤_, _<_}
+use Prim.Native.Nat.{ℕ, zero, suc, _+_, _-_, _≤_, _<_}
 use native.Mathlib.Omega.{arith}
 use native.Mathlib.Numerals.{add-one}
 use lib.Dec.{leb, ltb, eqb}
@@ -238,6 +238,12 @@ module _ (name : Word) (ws : List Word) (row : ℕ) {table : List ℕ} {at a b :
 pub no-row : (name : Word) (ws : List Word) (row : ℕ) {names : List Word} → names ≡ [] → byTable (rowsOf row names) name ws ≡ ends (Wrong (fault.NotACommand (placeOf name)))
 unfolding rowsOf byTable
 no-row name ws row n = rw n
+
+-- what stands at a place of a list does not hang on what stands beyond its end
+pub at-inside : {A : Type 0} (l : List A) (i : ℕ) (d e : A) → i < length l → getD l i d ≡ getD l i e
+at-inside [] i d e h = absurd (omega arith)
+at-inside (x ∷ l) zero d e h = refl
+at-inside (x ∷ l) (suc i) d e h = at-inside l i d e (omega arith)
 
 -- the text of the table says its rows
 pub table-is : rowsOf 0 (words (textOf table)) ≡ table

@@ -1,4 +1,3 @@
 pub mod FormLaws
-pub mod ValueLaws
 pub mod Worked
 pub mod SingleAnswers

@@ -15,7 +15,7 @@ use Rattle.line.specs.Numeral.{everyDigit, whole, signed}
 use Rattle.hex.specs.Hex.{hexDigit, isHex}
 use Rattle.command.specs.Forms.{Told, named, told, fieldsTold, fits, listTold, wordTold, mayEnd, lineTold}
 use Rattle.command.specs.Commands.{byTable, commandOf}
-use Rattle.command.specs.Values.{each, settingsOf, recordsOf}
+use Rattle.values.specs.Values.{each, settingsOf, recordsOf}
 use Rattle.command.specs.declared.Place.{Place}
 use Rattle.command.specs.declared.Verb.the-variants.{Open, Hear, Wind, Read, Write, FeedFile, Log, Help}
 use Rattle.command.specs.declared.Fault.the-variants.{NotACommand, WordCount, NotSuch, Misshapen}

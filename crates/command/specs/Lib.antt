@@ -1,4 +1,3 @@
 pub mod Forms
 pub mod Commands
-pub mod Values
 pub mod Laid

@@ -9,7 +9,6 @@ ghost use Rattle.line.specs.Words.{words, wordAt, wordsAt, field, fields, field
 ghost use Rattle.command.specs.Forms.{named, told, fits, fieldsTold, listTold, wordTold, lineTold};
 ghost use Rattle.command.specs.Commands.{verbAt, rowsOf, byTable, commandOf};
 ghost use Rattle.command.specs.Laid.{Lays, Parses};
-ghost use Rattle.command.specs.Values.{settingsOf, recordsOf};
 use hex::is_hex;
 use line::Part;
 use line::Said;
@@ -18,26 +17,6 @@ use line::next_word;
 use line::same;
 use line::signed;
 use line::whole;
-use number::Kept;
-use settings::Correction;
-use settings::Height;
-use settings::POINTS;
-use settings::Point;
-use settings::PsychrometerCoefficient;
-use settings::SeaLevelDifference;
-use settings::Settings;
-use settings::TemperatureCoefficient;
-use values::at;
-use values::count_of;
-use values::kept_at;
-use values::point_of;
-use values::record_of;
-use values::unit_of;
-use watchfile::Body;
-use watchfile::RECORDS;
-use watchfile::Record;
-
-mod values;
 
 // What a command does.
 pub enum Verb {
@@ -384,7 +363,8 @@ fn by_table(table: &[u8], line: &[u8], from: usize, to: usize, numbers: &mut [u6
     }
 }
 
-// The command of a line, or its first fault from the left. `numbers` has at its start what the words say that stand before the fault.
+// The command of a line, or its first fault from the left. `numbers` has at its start what the words and fields say that stand
+// before the fault, as far as there is room: a number a word, and for a word of a list as many as its form has letters.
 pub fn parse(line: &[u8], numbers: &mut [u64]) -> Command
     ensures { λ r. ⌜ Parses (now (numbers .entry)) (now (numbers .exit)) (commandOf (now (line .entry))) r ⌝ }
 {
@@ -415,49 +395,4 @@ pub fn parse(line: &[u8], numbers: &mut [u64]) -> Command
             )
         }
     }
-}
-
-// The settings that the numbers of an `open` line say, which has so many words behind the name.
-pub fn settings_of(numbers: &[u64], words: usize) -> Settings
-    ensures { λ r. ⌜ r ≡ settingsOf (now (numbers .entry)) words ⌝ }
-{
-    let zero = Kept { v: 0 };
-    let nowhere = Point {
-        reading: zero,
-        correction: Correction(zero),
-    };
-    let mut points = [nowhere; POINTS];
-    let mut i = 0;
-    while i < POINTS {
-        let point = point_of(numbers, words, i);
-        points[i] = point;
-        i += 1;
-    }
-    Settings {
-        unit: unit_of(at(numbers, 0)),
-        height: Height(kept_at(numbers, 1)),
-        difference: SeaLevelDifference(kept_at(numbers, 2)),
-        coefficient: TemperatureCoefficient(kept_at(numbers, 3)),
-        psychrometer: PsychrometerCoefficient(kept_at(numbers, 4)),
-        count: count_of(words),
-        points,
-    }
-}
-
-// The records that the numbers of a `write` line say, which has so many words behind the name.
-pub fn records_of(numbers: &[u64], words: usize) -> [Record; RECORDS]
-    ensures { λ r. ⌜ r ≡ recordsOf (now (numbers .entry)) words ⌝ }
-{
-    let blank = Record {
-        minute: 0,
-        body: Body::Pressure(0),
-    };
-    let mut records = [blank; RECORDS];
-    let mut i = 0;
-    while i < RECORDS {
-        let record = record_of(numbers, words, i);
-        records[i] = record;
-        i += 1;
-    }
-    records
 }

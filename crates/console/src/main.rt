@@ -34,7 +34,7 @@ fn tell(text: &[u8; BYTES], n: usize) {
 // A refused opening leaves the store that was open. The log of the first that is opened is an empty file: how long the log is then.
 fn open(store: &mut Store, numbers: &[u64], words: usize, file: &mut [u8], log: usize) -> usize {
     let mut text = [0u8; BYTES];
-    let r = station::open(store, command::settings_of(numbers, words));
+    let r = station::open(store, values::settings_of(numbers, words));
     let n = answer::put_opening(&mut text, 0, r);
     tell(&text, n);
     let settings::Checked::Good = r else {
@@ -86,7 +86,7 @@ fn read(word: &[u8]) {
 // Writes records into lent bytes of that room; more than the longest file needs makes no difference.
 fn write(numbers: &[u64], words: usize, room: usize, file: &mut [u8]) {
     let mut text = [0u8; BYTES];
-    let records = command::records_of(numbers, words);
+    let records = values::records_of(numbers, words);
     let count = if words > 0 { words - 1 } else { 0 };
     let most = smaller(room, file.len());
     let r = writer::write(&mut file[..most], records, count);

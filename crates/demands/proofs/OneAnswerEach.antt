@@ -150,8 +150,9 @@ use Rattle.hex.proofs.unhex.Reads as hex-unhex
 use Rattle.hex.proofs.put_hex.Reads as hex-put-hex
 use Rattle.command.proofs.SingleAnswers as command
 use Rattle.command.proofs.parse.Reads as command-parse
-use Rattle.command.proofs.settings_of.Reads as command-settings-of
-use Rattle.command.proofs.records_of.Reads as command-records-of
+use Rattle.values.proofs.SingleAnswers as values
+use Rattle.values.proofs.settings_of.Reads as values-settings-of
+use Rattle.values.proofs.records_of.Reads as values-records-of
 use Rattle.notice.proofs.SingleAnswers as notice
 use Rattle.notice.proofs.put_help.Reads as notice-put-help
 use Rattle.notice.proofs.put_fault.Reads as notice-put-fault
@@ -361,8 +362,9 @@ pub record OneAnswerEach : Type 0 where
   -- command
   pub command-parse-single : Single command-parse.Post
   pub command-parse-left : SingleLeft command-parse.Post (λ κs s. s .1 .0 .now)
-  pub command-settings-of-single : Single command-settings-of.Post
-  pub command-records-of-single : Single command-records-of.Post
+  -- values
+  pub values-settings-of-single : Single values-settings-of.Post
+  pub values-records-of-single : Single values-records-of.Post
   -- notice
   pub notice-put-help-single : Single notice-put-help.Post
   pub notice-put-help-left : SingleLeft notice-put-help.Post (λ κs s. s .0 .now)
@@ -556,8 +558,8 @@ one-answer-each =
       hex-put-hex-left = hex.single-put-hex-text;
       command-parse-single = command.single-parse;
       command-parse-left = command.single-parse-numbers;
-      command-settings-of-single = command.single-settings-of;
-      command-records-of-single = command.single-records-of;
+      values-settings-of-single = values.single-settings-of;
+      values-records-of-single = values.single-records-of;
       notice-put-help-single = notice.single-put-help;
       notice-put-help-left = notice.single-put-help-text;
       notice-put-fault-single = notice.single-put-fault;

@@ -3,7 +3,7 @@ use mathlib.Core.Path.{sym}
 use lib.ListN.{List·getD-eq-default}
 use Rattle.command.specs.Commands.{verbs}
 use Rattle.command.specs.declared.Verb.the-variants.{Help}
-use Rattle.command.proofs.ValueLaws.{at-inside}
+use Rattle.command.proofs.FormLaws.{at-inside}
 use borrow.Author.Needs.{needs}
 use Rattle.command.proofs.verb_at.Statement.{statement}
 use Rattle.command.proofs.verb_at.Tie as tie

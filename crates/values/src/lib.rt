@@ -1,17 +1,24 @@
-// From the numbers of a line to values: settings and records.
+// From the numbers of a line to values: the settings of an `open` line, and the records of a `write` line.
 ghost use mathlib.Core.Path.{_≡_};
 ghost use Prim.Native.Nat.{_<_};
-ghost use Rattle.command.specs.Values.{at, keptOf, countOf, unitOf, pointOf, bodyOf, recordOf};
+ghost use Rattle.values.specs.Values.{at, keptOf, countOf, unitOf, pointOf, bodyOf, recordOf, settingsOf, recordsOf};
 use number::Kept;
 use number::Number;
 use quantity::BarometerUnit;
 use settings::Correction;
+use settings::Height;
+use settings::POINTS;
 use settings::Point;
+use settings::PsychrometerCoefficient;
+use settings::SeaLevelDifference;
+use settings::Settings;
+use settings::TemperatureCoefficient;
 use watchfile::Body;
+use watchfile::RECORDS;
 use watchfile::Record;
 
 // The number at a place, 0 where there is none.
-pub(crate) fn at(numbers: &[u64], i: usize) -> u64
+fn at(numbers: &[u64], i: usize) -> u64
     ensures { λ r. ⌜ r ≡ at (now (numbers .entry)) i ⌝ }
 {
     if i < numbers.len() {
@@ -21,7 +28,7 @@ pub(crate) fn at(numbers: &[u64], i: usize) -> u64
 }
 
 // The number with a sign that was laid as itself plus 2147483648.
-pub(crate) fn kept_at(numbers: &[u64], i: usize) -> Kept
+fn kept_at(numbers: &[u64], i: usize) -> Kept
     ensures { λ r. ⌜ r ≡ keptOf (at (now (numbers .entry)) i) ⌝ }
 {
     let laid = Number::whole((at(numbers, i) % 4294967296) as u32);
@@ -32,7 +39,7 @@ pub(crate) fn kept_at(numbers: &[u64], i: usize) -> Kept
 }
 
 // How many points there are, as a number of 32 bits.
-pub(crate) fn count_of(words: usize) -> u32
+fn count_of(words: usize) -> u32
     ensures { λ r. ⌜ r ≡ countOf words ⌝ }
 {
     if words < 5 {
@@ -44,7 +51,7 @@ pub(crate) fn count_of(words: usize) -> u32
     4294967295
 }
 
-pub(crate) fn unit_of(n: u64) -> BarometerUnit
+fn unit_of(n: u64) -> BarometerUnit
     ensures { λ r. ⌜ r ≡ unitOf n ⌝ }
 {
     if n == 0 {
@@ -54,7 +61,7 @@ pub(crate) fn unit_of(n: u64) -> BarometerUnit
 }
 
 // Point i of a line with so many words.
-pub(crate) fn point_of(numbers: &[u64], words: usize, i: usize) -> Point
+fn point_of(numbers: &[u64], words: usize, i: usize) -> Point
     requires { ⌜ i < 16 ⌝ }
     ensures { λ r. ⌜ r ≡ pointOf (now (numbers .entry)) words i ⌝ }
 {
@@ -102,7 +109,7 @@ fn body_of(numbers: &[u64], k: usize) -> Body
 }
 
 // Record i of a line with so many words.
-pub(crate) fn record_of(numbers: &[u64], words: usize, i: usize) -> Record
+fn record_of(numbers: &[u64], words: usize, i: usize) -> Record
     requires { ⌜ i < 48 ⌝ }
     ensures { λ r. ⌜ r ≡ recordOf (now (numbers .entry)) words i ⌝ }
 {
@@ -116,4 +123,49 @@ pub(crate) fn record_of(numbers: &[u64], words: usize, i: usize) -> Record
         minute: 0,
         body: Body::Pressure(0),
     }
+}
+
+// The settings that the numbers of an `open` line say, which has so many words behind the name.
+pub fn settings_of(numbers: &[u64], words: usize) -> Settings
+    ensures { λ r. ⌜ r ≡ settingsOf (now (numbers .entry)) words ⌝ }
+{
+    let zero = Kept { v: 0 };
+    let nowhere = Point {
+        reading: zero,
+        correction: Correction(zero),
+    };
+    let mut points = [nowhere; POINTS];
+    let mut i = 0;
+    while i < POINTS {
+        let point = point_of(numbers, words, i);
+        points[i] = point;
+        i += 1;
+    }
+    Settings {
+        unit: unit_of(at(numbers, 0)),
+        height: Height(kept_at(numbers, 1)),
+        difference: SeaLevelDifference(kept_at(numbers, 2)),
+        coefficient: TemperatureCoefficient(kept_at(numbers, 3)),
+        psychrometer: PsychrometerCoefficient(kept_at(numbers, 4)),
+        count: count_of(words),
+        points,
+    }
+}
+
+// The records that the numbers of a `write` line say, which has so many words behind the name.
+pub fn records_of(numbers: &[u64], words: usize) -> [Record; RECORDS]
+    ensures { λ r. ⌜ r ≡ recordsOf (now (numbers .entry)) words ⌝ }
+{
+    let blank = Record {
+        minute: 0,
+        body: Body::Pressure(0),
+    };
+    let mut records = [blank; RECORDS];
+    let mut i = 0;
+    while i < RECORDS {
+        let record = record_of(numbers, words, i);
+        records[i] = record;
+        i += 1;
+    }
+    records
 }

@@ -1,8 +1,8 @@
 -- `body_of` meets its contract: by the kind's letter. Assumes nothing.
 use borrow.Author.Tests.{eq-eqb, ne-eqb}
 use borrow.Author.Needs.{needs}
-use Rattle.command.proofs.values.body_of.Statement.{statement}
-use Rattle.command.proofs.values.body_of.Tie as tie
+use Rattle.values.proofs.body_of.Statement.{statement}
+use Rattle.values.proofs.body_of.Tie as tie
 
 at-requires : tie.Need-at-requires
 at-requires c κs = search needs

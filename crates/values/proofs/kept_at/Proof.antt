@@ -5,11 +5,11 @@ use native.Mathlib.Omega.{arith}
 use lib.IntN.{subℕ}
 use mir.Facts.{toZ-ofZ}
 use Rattle.number.proofs.Machine.{fits64, size32}
-use Rattle.command.specs.Values.{keptOf}
-use Rattle.command.proofs.ValueLaws.{kept-fits}
+use Rattle.values.specs.Values.{keptOf}
+use Rattle.values.proofs.ValueLaws.{kept-fits}
 use borrow.Author.Needs.{needs}
-use Rattle.command.proofs.values.kept_at.Statement.{statement}
-use Rattle.command.proofs.values.kept_at.Tie as tie
+use Rattle.values.proofs.kept_at.Statement.{statement}
+use Rattle.values.proofs.kept_at.Tie as tie
 
 at-requires : tie.Need-at-requires
 at-requires c κs = search needs

@@ -4,11 +4,11 @@ use Prim.Native.Nat.{_-_}
 use native.Mathlib.Omega.{arith}
 use lib.ListN.{length, length-set}
 use lib.Seq.{sets}
-use Rattle.command.specs.Values.{each, pointOf, settingsOf}
-use Rattle.command.proofs.ValueLaws.{each-all, each-on, each-end}
+use Rattle.values.specs.Values.{each, pointOf, settingsOf}
+use Rattle.values.proofs.ValueLaws.{each-all, each-on, each-end}
 use borrow.Author.Needs.{needs}
-use Rattle.command.proofs.settings_of.Statement.{statement}
-use Rattle.command.proofs.settings_of.Tie as tie
+use Rattle.values.proofs.settings_of.Statement.{statement}
+use Rattle.values.proofs.settings_of.Tie as tie
 
 abbrev Inv-loop : tie.InvT-loop
 Inv-loop numbers words points₀ i₀ points i = (length points ≡ 16) × (sets points i (each (pointOf numbers words) i (16 - i)) ≡ each (pointOf numbers words) 0 16)

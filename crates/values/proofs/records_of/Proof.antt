@@ -4,11 +4,11 @@ use Prim.Native.Nat.{_-_}
 use native.Mathlib.Omega.{arith}
 use lib.ListN.{length, length-set}
 use lib.Seq.{sets}
-use Rattle.command.specs.Values.{each, recordOf, recordsOf}
-use Rattle.command.proofs.ValueLaws.{each-all, each-on, each-end}
+use Rattle.values.specs.Values.{each, recordOf, recordsOf}
+use Rattle.values.proofs.ValueLaws.{each-all, each-on, each-end}
 use borrow.Author.Needs.{needs}
-use Rattle.command.proofs.records_of.Statement.{statement}
-use Rattle.command.proofs.records_of.Tie as tie
+use Rattle.values.proofs.records_of.Statement.{statement}
+use Rattle.values.proofs.records_of.Tie as tie
 
 abbrev Inv-loop : tie.InvT-loop
 Inv-loop numbers words records₀ i₀ records i = (length records ≡ 48) × (sets records i (each (recordOf numbers words) i (48 - i)) ≡ each (recordOf numbers words) 0 48)

@@ -1,8 +1,8 @@
 -- `record_of` meets its contract: by its test. Assumes nothing.
 use borrow.Author.Tests.{lt-ltb, le-ltb}
 use borrow.Author.Needs.{needs}
-use Rattle.command.proofs.values.record_of.Statement.{statement}
-use Rattle.command.proofs.values.record_of.Tie as tie
+use Rattle.values.proofs.record_of.Statement.{statement}
+use Rattle.values.proofs.record_of.Tie as tie
 
 add-if1 : tie.Need-add-if1
 add-if1 c = search needs

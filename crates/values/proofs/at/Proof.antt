@@ -2,8 +2,8 @@
 use mathlib.Core.Path.{sym}
 use lib.ListN.{List·getD-eq-default}
 use borrow.Author.Needs.{needs}
-use Rattle.command.proofs.values.at.Statement.{statement}
-use Rattle.command.proofs.values.at.Tie as tie
+use Rattle.values.proofs.at.Statement.{statement}
+use Rattle.values.proofs.at.Tie as tie
 
 mul-result : tie.Need-mul-result
 mul-result c = search needs

@@ -1,8 +1,8 @@
 -- `unit_of` meets its contract: by its test. Assumes nothing.
 use borrow.Author.Tests.{eq-eqb, ne-eqb}
 use borrow.Author.Needs.{needs}
-use Rattle.command.proofs.values.unit_of.Statement.{statement}
-use Rattle.command.proofs.values.unit_of.Tie as tie
+use Rattle.values.proofs.unit_of.Statement.{statement}
+use Rattle.values.proofs.unit_of.Tie as tie
 
 returns : tie.Need-returns
 returns c = rw (eq-eqb _ _ (c .if1 .taken))

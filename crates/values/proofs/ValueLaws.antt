@@ -8,12 +8,12 @@ use native.Mathlib.Omega.{arith}
 use native.Mathlib.Numerals.{add-one}
 use lib.Dec.{ltb}
 use lib.IntN.{ℤ, pos, negsuc, subℕ}
-use lib.ListN.{length, getD, set, drop-of-length-le}
+use lib.ListN.{length, set, drop-of-length-le}
 use lib.Seq.{sets, sets-eq}
 use mir.Syntax.{w32}
 use mir.Val.{SFits}
 use borrow.Author.Tests.{ltb-true, ltb-false}
-use Rattle.command.specs.Values.{each}
+use Rattle.values.specs.Values.{each}
 
 pub kept-fits : (m : ℕ) → m < 4294967296 → SFits w32 (subℕ m 2147483648)
 kept-fits m h = go (ltb m 2147483648) refl
@@ -44,9 +44,3 @@ each-on f l i n h =
 pub each-end : {A : Type 0} (f : ℕ → A) (l : List A) (i n : ℕ) → n ≤ i → sets l i (each f i (n - i)) ≡ l
 unfolding each
 each-end f l i n h = let e : n - i ≡ 0 = omega arith in rw e
-
--- what stands at a place of a list does not hang on what stands beyond its end
-pub at-inside : {A : Type 0} (l : List A) (i : ℕ) (d e : A) → i < length l → getD l i d ≡ getD l i e
-at-inside [] i d e h = absurd (omega arith)
-at-inside (x ∷ l) zero d e h = refl
-at-inside (x ∷ l) (suc i) d e h = at-inside l i d e (omega arith)
