@@ -1,7 +1,7 @@
 -- A block that was just opened: it is set to the unit of its settings, and every word behind the settings is 0. Assumes nothing.
 use mathlib.Core.Path.{_≡_, refl, ap, _∙_}
 use mathlib.Core.Bool.{Bool, true, _&&_, cond}
-use Prim.Native.Nat.{ℕ, _+_, _-_, _≤_, _<_, min}
+use Prim.Native.Nat.{ℕ, _+_, _-_, _≤_, _<_}
 use native.Mathlib.Nat.{zero-add}
 use native.Mathlib.Omega.{arith}
 use lib.Dec.{eqb, leb, lit<}
@@ -39,9 +39,9 @@ unfolding openedWord
 opened-unit g = rw (word-at g 0 (lit< tt)) (unit-back (g .unit))
 
 -- behind the settings an opened block is empty
-pub nothing-heard : (g : Settings) (i : ℕ) → SETTINGS ≤ i → openedWord g i ≡ 0
+pub nothing-heard : (g : Settings) → g .count ≤ 16 → (i : ℕ) → SETTINGS ≤ i → openedWord g i ≡ 0
 unfolding openedWord
-nothing-heard g i h =
+nothing-heard g few i h =
     rw (
       ne-eqb i 0 (λ q. omega arith),
       ne-eqb i 1 (λ q. omega arith),
@@ -49,15 +49,8 @@ nothing-heard g i h =
       ne-eqb i 3 (λ q. omega arith),
       ne-eqb i 4 (λ q. omega arith),
       ne-eqb i 5 (λ q. omega arith),
-      le-ltb i (POINTS + min (g .count) 16) (omega arith),
+      le-ltb i (POINTS + g .count) (omega arith),
     )
-
-pub opened-next : (g : Settings) (c : ℕ) → c < CHANNELS → next (windowOf c (opened g)) ≡ 0
-opened-next g c l =
-    getD-take WINDOW (drop (base c) (opened g)) 0 0 (lit< tt)
-    ∙ getD-drop (base c) (opened g) 0 0
-    ∙ word-at g (base c + 0) (omega arith)
-    ∙ nothing-heard g (base c + 0) (omega arith)
 
 second : (a b c d : Bool) → (a && b && c && d) ≡ true → b ≡ true
 second a b c d e = and-true a b (and-true (a && b) c (and-true (a && b && c) d e .0) .0) .1
@@ -76,3 +69,10 @@ module _ (g : Settings) (good : checked g ≡ given tt) where
       (every (λ i. pointHolds (g .unit) (pointAt (g .points) i)) 0 (g .count))
       (every (λ i. rises (pointAt (g .points) i) (pointAt (g .points) (i + 1))) 0 (g .count - 1))
       certificate)
+
+  pub opened-next : (c : ℕ) → c < CHANNELS → next (windowOf c (opened g)) ≡ 0
+  opened-next c l =
+      getD-take WINDOW (drop (base c) (opened g)) 0 0 (lit< tt)
+      ∙ getD-drop (base c) (opened g) 0 0
+      ∙ word-at g (base c + 0) (omega arith)
+      ∙ nothing-heard g few (base c + 0) (omega arith)

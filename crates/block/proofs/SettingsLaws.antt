@@ -114,6 +114,6 @@ module _ (g : Settings) (good : checked g ≡ given tt) where
             ne-eqb (6 + n) 3 (λ q. omega arith),
             ne-eqb (6 + n) 4 (λ q. omega arith),
             ne-eqb (6 + n) 5 (λ q. omega arith),
-            lt-ltb (6 + n) (6 + min (g .count) 16) (omega (arith, few g good)),
+            lt-ltb (6 + n) (6 + g .count) (omega arith),
           )
           (ap (λ (k : ℕ). pointWord (pointAt (g .points) k)) (less n))

@@ -12,7 +12,7 @@ use Rattle.settings.specs.declared.Settings.{Settings}
 use Rattle.settings.specs.declared.Point.{Point}
 use Rattle.window.specs.Layout.{WINDOW}
 use Rattle.cell.specs.Cells.{biased, unbiased}
-use Rattle.block.specs.Layout.{POINTS, WORDS, base}
+use Rattle.block.specs.Layout.{POINTS, SETTINGS, WORDS, base}
 
 -- ---- the settings as they are laid
 
@@ -23,7 +23,7 @@ unitWord Millimetres = 1
 abbrev pub pointWord : Point → ℕ
 pointWord p = biased (p .reading .v) + 65536 * biased (p .correction .0 .v)
 
--- The word at a place of a block that was just opened: the settings, the points of the certificate (at most 16), and nothing heard.
+-- The word at a place of a block that was just opened: the settings, the points of the certificate, and nothing heard.
 unfoldable pub openedWord : Settings → ℕ → ℕ
 openedWord s i =
     cond (eqb i 0) (unitWord (s .unit))
@@ -32,7 +32,7 @@ openedWord s i =
     (cond (eqb i 3) (biased (s .coefficient .0 .v))
     (cond (eqb i 4) (biased (s .psychrometer .0 .v))
     (cond (eqb i 5) (s .count)
-    (cond (ltb i (POINTS + min (s .count) 16)) (pointWord (pointAt (s .points) (i - POINTS)))
+    (cond (ltb i (POINTS + s .count)) (pointWord (pointAt (s .points) (i - POINTS)))
     0))))))
 
 -- A list of n words from place i on.
@@ -42,6 +42,14 @@ listed f i (suc n) = f i ∷ listed f (suc i) n
 
 abbrev pub opened : Settings → List ℕ
 opened s = listed (openedWord s) 0 WORDS
+
+-- The block as any settings whatever are laid into it: their words, and zeros behind. (Of settings that keep their rules it is the
+-- opened block: a certificate has at most 16 points.)
+abbrev pub laidWord : Settings → ℕ → ℕ
+laidWord s i = cond (ltb i SETTINGS) (openedWord s i) 0
+
+abbrev pub laid : Settings → List ℕ
+laid s = listed (laidWord s) 0 WORDS
 
 -- ---- the settings as they are read back
 

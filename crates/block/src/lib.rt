@@ -3,7 +3,7 @@ ghost use mathlib.Core.Path.{_≡_};
 ghost use mathlib.Core.List.{[], _∷_};
 ghost use Prim.Native.Nat.{_<_};
 ghost use Rattle.block.specs.Layout.{SETTINGS};
-ghost use Rattle.block.specs.Words.{unitWord, openedWord, opened, unitOf, settingOf, pointsOf, pointOf};
+ghost use Rattle.block.specs.Words.{unitWord, openedWord, laid, unitOf, settingOf, pointsOf, pointOf};
 use cell::CHANNELS;
 use number::Kept;
 use quantity::BarometerUnit;
@@ -77,7 +77,7 @@ fn setting_word(g: Settings, i: usize) -> u64
 
 // Lays the settings into the block. Behind them it is all zeros: nothing is heard yet.
 pub fn lay(store: &mut Store, g: Settings)
-    ensures { λ r. ⌜ now (store .exit) ≡ opened g ⌝ }
+    ensures { λ r. ⌜ now (store .exit) ≡ laid g ⌝ }
 {
     *store = [0u64; WORDS];
     let mut i: usize = 0;

@@ -167,7 +167,7 @@ pub opened-remembers : (g : Settings) → checked g ≡ given tt → Remembers (
 unfolding history
 opened-remembers g good =
     remembers (opened g) (g .unit) [] (opened-long g) (opened-unit g)
-    (λ c l. means-nothing (g .unit) c (windowOf c (opened g)) (opened-next g c l))
+    (λ c l. means-nothing (g .unit) c (windowOf c (opened g)) (opened-next g good c l))
 
 -- a message that nothing is kept of
 unchanged : (s : List ℕ) (u : BarometerUnit) (M : List (List ℕ)) (m : List ℕ) → Remembers s u M

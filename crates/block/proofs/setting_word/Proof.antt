@@ -1,6 +1,6 @@
 -- `setting_word` meets its contract: each place has its setting. Assumes nothing.
 use mathlib.Core.Path.{_≡_, ap₂}
-use Prim.Native.Nat.{ℕ, _+_, _-_, _*_, _≤_, _<_, min}
+use Prim.Native.Nat.{ℕ, _+_, _-_, _*_, _≤_, _<_}
 use native.Mathlib.Omega.{arith}
 use borrow.Author.Tests.{eq-eqb, ne-eqb, lt-ltb, le-ltb}
 use Rattle.block.specs.Words.{openedWord}
@@ -15,10 +15,10 @@ six i a b c d e f = omega arith
 room : (i : ℕ) → i < 22 → i - 6 < 16
 room i h = omega arith
 
-within : (i n : ℕ) → i < 22 → i - 6 < n → i < 6 + min n 16
-within i n l h = omega arith
+within : (i n : ℕ) → i - 6 < n → i < 6 + n
+within i n h = omega arith
 
-beyond : (i n : ℕ) → 6 ≤ i → n ≤ i - 6 → 6 + min n 16 ≤ i
+beyond : (i n : ℕ) → 6 ≤ i → n ≤ i - 6 → 6 + n ≤ i
 beyond i n h k = omega arith
 
 unit-word-requires : tie.Need-unit-word-requires
@@ -95,7 +95,7 @@ add-result c = search needs
 returns-7 : tie.Need-returns-7
 unfolding openedWord
 returns-7 c =
-    rw (ne-eqb _ _ (c .before .before .before .before .before .before .before .before .before .before .before .before .before .if1 .left), ne-eqb _ _ (c .before .before .before .before .before .before .before .before .before .before .before .before .if2 .left), ne-eqb _ _ (c .before .before .before .before .before .before .before .before .before .before .before .if3 .left), ne-eqb _ _ (c .before .before .before .before .before .before .before .before .before .before .if4 .left), ne-eqb _ _ (c .before .before .before .before .before .before .before .before .before .if5 .left), ne-eqb _ _ (c .before .before .before .before .before .before .before .before .if6 .left), lt-ltb _ _ (within (c .before .before .before .before .before .before .before .before .before .before .before .before .before .before .args .i) (c .before .before .before .before .before .before .before .before .before .before .before .before .before .before .args .g .count) (c .before .before .before .before .before .before .before .before .before .before .before .before .before .before .pre) (c .before .before .before .before .before .before .if7 .taken)))
+    rw (ne-eqb _ _ (c .before .before .before .before .before .before .before .before .before .before .before .before .before .if1 .left), ne-eqb _ _ (c .before .before .before .before .before .before .before .before .before .before .before .before .if2 .left), ne-eqb _ _ (c .before .before .before .before .before .before .before .before .before .before .before .if3 .left), ne-eqb _ _ (c .before .before .before .before .before .before .before .before .before .before .if4 .left), ne-eqb _ _ (c .before .before .before .before .before .before .before .before .before .if5 .left), ne-eqb _ _ (c .before .before .before .before .before .before .before .before .if6 .left), lt-ltb _ _ (within (c .before .before .before .before .before .before .before .before .before .before .before .before .before .before .args .i) (c .before .before .before .before .before .before .before .before .before .before .before .before .before .before .args .g .count) (c .before .before .before .before .before .before .if7 .taken)))
     (ap₂ (λ (x y : ℕ). x + 65536 * y) (c .before .biased5 .ensures .0) (c .biased6 .ensures .0))
 
 returns-8 : tie.Need-returns-8

@@ -2,6 +2,8 @@
 use mathlib.Core.Path.{sym, ap, _∙_}
 use denote.Ref.{now}
 use Rattle.settings.specs.Settings.{checkedAs}
+use Rattle.block.proofs.OpenedLaws.{few}
+use Rattle.block.proofs.WrittenLaws.{laid-opened}
 use Rattle.store.proofs.OpenLaws.{opens, opens-not}
 use borrow.Author.Needs.{needs}
 use Rattle.store.proofs.open.Statement.{statement}
@@ -26,7 +28,7 @@ returns : tie.Need-returns
 returns c =
     let start = c .before .before .before .before .before .args in
     let good = sym (c .before .before .before .before .check .ensures) ∙ ap checkedAs (c .before .before .enum-told .given .1) in
-    (c .before .before .before .before .check .ensures, c .lay .ensures ∙ opens (now (start .store)) (start .settings) good)
+    (c .before .before .before .before .check .ensures, c .lay .ensures ∙ laid-opened (start .settings) (few (start .settings) good) ∙ opens (now (start .store)) (start .settings) good)
 
 returns-2 : tie.Need-returns-2
 returns-2 c =
