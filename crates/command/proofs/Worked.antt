@@ -12,7 +12,7 @@ use Rattle.settings.specs.declared.Point.{Point}
 use Rattle.watchfile.specs.declared.Body.the-variants as body
 use Rattle.line.specs.Words.{run, wordsFrom, field, more, same}
 use Rattle.line.specs.Numeral.{everyDigit, whole, signed}
-use Rattle.hex.specs.Hex.{hexDigit, isHex}
+use Rattle.hex.specs.Hex.{hexValue, isHex}
 use Rattle.command.specs.Forms.{Told, named, told, fieldsTold, fits, listTold, wordTold, mayEnd, lineTold}
 use Rattle.command.specs.Commands.{byTable, commandOf}
 use Rattle.values.specs.Values.{each, settingsOf, recordsOf}
@@ -60,7 +60,7 @@ pub the-commands : Right (
     ∷ row (letters "log humidity 00007") (Does Log 2) (4 ∷ 7 ∷ [])
     ∷ row (letters "help") (Does Help 0) []
     ∷ [])
-unfolding run wordsFrom field more same everyDigit whole hexDigit isHex named told fieldsTold fits listTold wordTold mayEnd lineTold byTable commandOf
+unfolding run wordsFrom field more same everyDigit whole hexValue isHex named told fieldsTold fits listTold wordTold mayEnd lineTold byTable commandOf
 the-commands = refl
 
 -- the numbers of the words before the fault stay
@@ -80,7 +80,7 @@ pub the-faults : Right (
     ∷ row (letters "open inHg x") (Wrong (NotSuch 0x75 (place 5 9))) []
     ∷ row (letters "open mmHg 2147483648") (Wrong (NotSuch 0x7A (place 10 20))) (1 ∷ [])
     ∷ [])
-unfolding run wordsFrom field more same everyDigit whole signed hexDigit isHex named told fieldsTold fits listTold wordTold mayEnd lineTold byTable commandOf
+unfolding run wordsFrom field more same everyDigit whole signed hexValue isHex named told fieldsTold fits listTold wordTold mayEnd lineTold byTable commandOf
 the-faults = refl
 
 -- the words of lists

@@ -32,7 +32,8 @@ named first (w ∷ ws) s = cond (same s (w .bytes)) (Number first) (named (suc f
 abbrev pub only : Bool → ℕ → Said
 only right n = cond right (Number n) NoNumber
 
--- What a text says by a letter. Whatever letter is none of these stands for itself.
+-- What a text says by a letter. n, h and o are whole numbers of 32, 16 and 8 bits, z is one of 32 bits with a sign, u the barometer's
+-- unit, q a question, f a file's name, which may be any word, and x bytes in hex. Whatever letter is none of these stands for itself.
 unfoldable pub told : ℕ → List ℕ → Said
 told letter s =
     cond (eqb letter 0x6E {- n -}) (whole 4294967295 s)
@@ -70,7 +71,7 @@ fieldsTold [] (f ∷ fs) = ends Misshapen
 fieldsTold (l ∷ ls) [] = cond (eqb l 0x2E) (behind (0 ∷ []) (fieldsTold ls [])) (ends Misshapen)
 fieldsTold (l ∷ ls) (f ∷ fs) = cond (eqb l 0x2E) (behind (0 ∷ []) (fieldsTold ls (f ∷ fs))) (letterThen l (told l f) (fieldsTold ls fs))
 
--- Whether a form is one for a word.
+-- Whether a form is one for a word: a capital (41 to 5A) at its start has to be the word's first field.
 abbrev pub capital : ℕ → Bool
 capital letter = leb 0x41 letter && leb letter 0x5A
 
@@ -82,6 +83,7 @@ unfoldable pub listTold : List (List ℕ) → List ℕ → Told Flaw
 listTold [] word = ends Misshapen
 listTold (f ∷ fs) word = cond (fits f word) (fieldsTold f (fields word)) (listTold fs word)
 
+-- Where the letters have run out: no form at all means that the word is left over.
 abbrev pub leftTold : List (List ℕ) → List ℕ → Told Flaw
 leftTold [] word = ends LeftOver
 leftTold (f ∷ fs) word = listTold (f ∷ fs) word

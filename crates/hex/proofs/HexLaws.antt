@@ -11,15 +11,25 @@ use lib.ListN.{length, getD, set, drop, length-drop, drop-of-length-le}
 use lib.Seq.{drop-cons, sets, sets-eq}
 use borrow.Author.Tests.{le-leb, lt-leb, leb-true, eqb-true, eqb-false, lt-ltb, le-ltb, ltb-true, ltb-false}
 use Rattle.number.proofs.Sizes.{and-true}
+use Rattle.text.specs.Text.{Put}
+use Rattle.text.proofs.PutLaws.{join}
 use Rattle.hex.specs.Row.{row}
-use Rattle.hex.specs.Hex.{hexDigit, hexValue, isHex, hexBytes, Unhexes, digit16, hex}
+use Rattle.hex.specs.Hex.{hexDigit, hexValue, isHex, hexBytes, Unhexes, digit16, hexOf, hex}
 use Rattle.hex.specs.declared.Unhexed.the-variants.{Bytes, NotHex, NoRoom}
 
--- a digit of a range
-pub range : (low b high : ℕ) {t : Bool} → t ≡ (leb low b && leb b high) → t ≡ true → (low ≤ b) × (b ≤ high)
-range low b high e taken =
-    let p = and-true (leb low b) (leb b high) (sym e ∙ taken) in
-    (leb-true low b (p .0), leb-true b high (p .1))
+-- whether a byte lies in a range
+pub range-in : (low b high : ℕ) → low ≤ b → b ≤ high → (leb low b && leb b high) ≡ true
+range-in low b high h l = rw (le-leb low b h, le-leb b high l)
+
+pub range-low : (low b high : ℕ) → b < low → (leb low b && leb b high) ≡ false
+range-low low b high h = rw (lt-leb low b h)
+
+pub range-high : (low b high : ℕ) → high < b → (leb low b && leb b high) ≡ false
+range-high low b high h = rw (lt-leb b high h) (go (leb low b))
+  where
+    go : (t : Bool) → (t && false) ≡ false
+    go true = refl
+    go false = refl
 
 -- two more bytes
 pair : (s : List ℕ) (i : ℕ) → i + 1 < length s → drop i s ≡ getD s i 0 ∷ getD s (i + 1) 0 ∷ drop (i + 2) s
@@ -54,6 +64,15 @@ hex-left s i h l = go (eqb i (length s)) refl
         let a : i < length s = omega arith in
         let b : length s ≤ suc i = omega arith in
         rw (drop-cons s i 0 a, drop-of-length-le s b)
+
+-- two digits of a word in hex, and what stands behind them
+pub digits-here : (s : List ℕ) (i : ℕ) → i + 1 < length s → isHex (drop i s) ≡ true
+    → (hexValue (getD s i 0) < 16) × (hexValue (getD s (i + 1) 0) < 16) × (isHex (drop (i + 2) s) ≡ true)
+unfolding isHex
+digits-here s i h e =
+    let p = and-true (hexDigit (getD s i 0)) (hexDigit (getD s (i + 1) 0) && isHex (drop (i + 2) s)) (rw (pair s i h) at e) in
+    let q = and-true (hexDigit (getD s (i + 1) 0)) (isHex (drop (i + 2) s)) (p .1) in
+    (ltb-true (hexValue (getD s i 0)) 16 (p .0), ltb-true (hexValue (getD s (i + 1) 0)) 16 (q .0), q .1)
 
 -- ---- the bytes
 
@@ -111,26 +130,23 @@ digit16-low d h = rw (lt-ltb d 10 h)
 pub digit16-high : (d : ℕ) → 10 ≤ d → digit16 d ≡ 87 + d
 digit16-high d h = rw (le-ltb d 10 h)
 
--- a digit that is written is a digit when it is read, and stands for its number
-pub value-digit16 : (d : ℕ) → d < 16 → (hexDigit (digit16 d) ≡ true) × (hexValue (digit16 d) ≡ d)
-unfolding hexDigit hexValue
+-- a digit that is written stands for its number when it is read
+value-digit16 : (d : ℕ) → d < 16 → hexValue (digit16 d) ≡ d
+unfolding hexValue
 value-digit16 d h = go (ltb d 10) refl
   where
-    go : (t : Bool) → ltb d 10 ≡ t → (hexDigit (cond t (48 + d) (87 + d)) ≡ true) × (hexValue (cond t (48 + d) (87 + d)) ≡ d)
+    go : (t : Bool) → ltb d 10 ≡ t → hexValue (cond t (48 + d) (87 + d)) ≡ d
     go true e =
         let l = ltb-true d 10 e in
-        let a = le-leb 0x30 (48 + d) (omega arith) in
-        let b = le-leb (48 + d) 0x39 (omega arith) in
-        (rw (a, b), rw (a, b) (omega arith))
+        rw (range-in 0x30 (48 + d) 0x39 (omega arith) (omega arith)) (omega arith)
     go false e =
         let l = ltb-false d 10 e in
-        let a = lt-leb (87 + d) 0x39 (omega arith) in
-        let b = le-leb 0x30 (87 + d) (omega arith) in
-        let f = lt-leb (87 + d) 0x46 (omega arith) in
-        let g = le-leb 0x41 (87 + d) (omega arith) in
-        let i = le-leb 0x61 (87 + d) (omega arith) in
-        let j = le-leb (87 + d) 0x66 (omega arith) in
-        (rw (b, a, g, f, i, j), rw (b, a, g, f, i, j) (omega arith))
+        rw (
+          range-high 0x30 (87 + d) 0x39 (omega arith),
+          range-high 0x41 (87 + d) 0x46 (omega arith),
+          range-in 0x61 (87 + d) 0x66 (omega arith) (omega arith),
+        )
+        (omega arith)
 
 -- the text of bytes is a word in hex, and says those bytes
 pub hex-read-back : (bytes : List ℕ) → ((i : ℕ) → getD bytes i 0 < 256) → (isHex (hex bytes) ≡ true) × (hexBytes (hex bytes) ≡ bytes)
@@ -142,4 +158,9 @@ hex-read-back (b ∷ bytes) h =
     let second = value-digit16 (b % 16) (omega arith) in
     let rest = hex-read-back bytes (λ i. h (suc i)) in
     let e : 16 * (b / 16) + b % 16 ≡ b = omega arith in
-    (rw (first .0, second .0) (rest .0), rw (first .1, second .1, e, rest .1))
+    (rw (first, second, lt-ltb (b / 16) 16 (omega arith), lt-ltb (b % 16) 16 (omega arith)) (rest .0), rw (first, second, e, rest .1))
+
+-- the two digits of a byte, one behind the other
+pub put-byte : {b b₁ b₂ : List ℕ} {at k₁ k₂ first second : ℕ} (n : ℕ) → first ≡ digit16 (n / 16) → second ≡ digit16 (n % 16)
+    → Put b b₁ at (first ∷ []) k₁ → Put b₁ b₂ k₁ (second ∷ []) k₂ → Put b b₂ at (hexOf n) k₂
+put-byte n e f p q = rw (← e, ← f) (join p q)

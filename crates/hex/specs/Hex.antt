@@ -1,6 +1,6 @@
 -- Bytes in hex: two digits each. Read in either case, written in lower case.
 use mathlib.Core.Path.{_≡_}
-use mathlib.Core.Bool.{Bool, true, false, _&&_, _||_, cond}
+use mathlib.Core.Bool.{Bool, true, false, _&&_, cond}
 use mathlib.Core.List.{List, [], _∷_, _++_}
 use Prim.Native.Nat.{ℕ, _+_, _*_, _-_, _/_, _%_}
 use lib.Dec.{leb, ltb}
@@ -20,12 +20,12 @@ upperDigit b = leb 0x41 b && leb b 0x46
 abbrev pub lowerDigit : ℕ → Bool
 lowerDigit b = leb 0x61 b && leb b 0x66
 
-unfoldable pub hexDigit : ℕ → Bool
-hexDigit b = digit b || (upperDigit b || lowerDigit b)
-
--- What a hex digit stands for; any other byte for 0.
+-- What a hex digit stands for; any other byte for 16.
 unfoldable pub hexValue : ℕ → ℕ
-hexValue b = cond (digit b) (b - 0x30) (cond (upperDigit b) (b - 0x41 + 10) (cond (lowerDigit b) (b - 0x61 + 10) 0))
+hexValue b = cond (digit b) (b - 0x30) (cond (upperDigit b) (b - 0x41 + 10) (cond (lowerDigit b) (b - 0x61 + 10) 16))
+
+abbrev pub hexDigit : ℕ → Bool
+hexDigit b = ltb (hexValue b) 16
 
 -- A word of an even number of hex digits.
 unfoldable pub isHex : List ℕ → Bool

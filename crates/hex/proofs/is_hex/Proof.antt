@@ -1,12 +1,12 @@
 -- `is_hex` meets its contract: what is left is hex exactly where all is. Assumes nothing.
 use mathlib.Core.Path.{_≡_, refl, sym, _∙_}
 use Prim.Native.Nat.{_-_, _≤_}
-use borrow.Author.Tests.{not-true, not-false}
+use native.Mathlib.Omega.{arith}
+use borrow.Author.Tests.{lt-ltb, le-ltb}
 use lib.ListN.{length, drop}
 use Rattle.hex.specs.Hex.{isHex}
 use Rattle.hex.proofs.HexLaws.{hex-on, hex-first, hex-second, hex-left}
 use borrow.Author.Needs.{needs}
-use native.Mathlib.Omega.{arith}
 use Rattle.hex.proofs.is_hex.Statement.{statement}
 use Rattle.hex.proofs.is_hex.Tie as tie
 
@@ -22,31 +22,30 @@ loop-holds c = (search needs, refl)
 add-loop : tie.Need-add-loop Inv-loop μ-loop
 add-loop c = search needs
 
-shared-slice-read-hex-digit : tie.Need-shared-slice-read-hex-digit Inv-loop μ-loop
-shared-slice-read-hex-digit c = search needs
+shared-slice-read-hex-value : tie.Need-shared-slice-read-hex-value Inv-loop μ-loop
+shared-slice-read-hex-value c = search needs
 
-hex-digit-requires : tie.Need-hex-digit-requires Inv-loop μ-loop
-hex-digit-requires c κs = search needs
+hex-value-requires : tie.Need-hex-value-requires Inv-loop μ-loop
+hex-value-requires c κs = search needs
 
 returns : tie.Need-returns Inv-loop μ-loop
 returns c =
     let l = c .before .before .before .before .loop in
-    sym (hex-first (c .before .before .before .before .before .before .args .word .now) (l .i) (c .before .before .before .loop-test .taken) (sym (c .before .hex-digit .ensures) ∙ not-true _ (c .if1 .taken))) ∙ l .inv .1
+    sym (hex-first (c .before .before .before .before .before .before .args .word .now) (l .i) (c .before .before .before .loop-test .taken) (rw (← c .before .hex-value .ensures) (le-ltb (c .before .hex-value .result) 16 (omega arith)))) ∙ l .inv .1
 
-add-hex-digit : tie.Need-add-hex-digit Inv-loop μ-loop
-add-hex-digit c = search needs
+add-hex-value : tie.Need-add-hex-value Inv-loop μ-loop
+add-hex-value c = search needs
 
-shared-slice-read-hex-digit-2 : tie.Need-shared-slice-read-hex-digit-2 Inv-loop μ-loop
-shared-slice-read-hex-digit-2 c = search needs
+shared-slice-read-hex-value-2 : tie.Need-shared-slice-read-hex-value-2 Inv-loop μ-loop
+shared-slice-read-hex-value-2 c = search needs
 
-hex-digit-requires-2 : tie.Need-hex-digit-requires-2 Inv-loop μ-loop
-hex-digit-requires-2 c κs = search needs
+hex-value-requires-2 : tie.Need-hex-value-requires-2 Inv-loop μ-loop
+hex-value-requires-2 c κs = search needs
 
 returns-2 : tie.Need-returns-2 Inv-loop μ-loop
 returns-2 c =
     let l = c .before .before .before .before .before .before .before .loop in
-    sym (hex-second (c .before .before .before .before .before .before .before .before .before .args .word .now) (l .i) (c .before .before .before .before .before .before .loop-test .taken) (sym (c .before .before .before .before .hex-digit .ensures) ∙ not-false _ (c .before .before .before .if1 .left)) (sym (c .before .hex-digit2 .ensures) ∙ not-true _ (c .if2 .taken)))
-    ∙ l .inv .1
+    sym (hex-second (c .before .before .before .before .before .before .before .before .before .args .word .now) (l .i) (c .before .before .before .before .before .before .loop-test .taken) (rw (← c .before .before .before .before .hex-value .ensures) (lt-ltb (c .before .before .before .before .hex-value .result) 16 (omega arith))) (rw (← c .before .hex-value2 .ensures) (le-ltb (c .before .hex-value2 .result) 16 (omega arith)))) ∙ l .inv .1
 
 add-i : tie.Need-add-i Inv-loop μ-loop
 add-i c = search needs
@@ -56,11 +55,8 @@ loop-less c = search needs
 
 loop-again : tie.Need-loop-again Inv-loop μ-loop
 loop-again c =
-    let l = c .before .before .before .before .before .before .before .loop in (
-      search needs,
-      sym (hex-on (c .before .before .before .before .before .before .before .before .before .args .word .now) (l .i) (c .before .before .before .before .before .before .loop-test .taken) (sym (c .before .before .before .before .hex-digit .ensures) ∙ not-false _ (c .before .before .before .if1 .left)) (sym (c .before .hex-digit2 .ensures) ∙ not-false _ (c .if2 .left)))
-          ∙ l .inv .1,
-    )
+    let l = c .before .before .before .before .before .before .before .loop in
+    (search needs, sym (hex-on (c .before .before .before .before .before .before .before .before .before .args .word .now) (l .i) (c .before .before .before .before .before .before .loop-test .taken) (rw (← c .before .before .before .before .hex-value .ensures) (lt-ltb (c .before .before .before .before .hex-value .result) 16 (omega arith))) (rw (← c .before .hex-value2 .ensures) (lt-ltb (c .before .hex-value2 .result) 16 (omega arith)))) ∙ l .inv .1)
 
 returns-3 : tie.Need-returns-3 Inv-loop μ-loop
 returns-3 c =
@@ -75,12 +71,12 @@ is-hex-spec =
     μ-loop
     loop-holds
     add-loop
-    shared-slice-read-hex-digit
-    hex-digit-requires
+    shared-slice-read-hex-value
+    hex-value-requires
     returns
-    add-hex-digit
-    shared-slice-read-hex-digit-2
-    hex-digit-requires-2
+    add-hex-value
+    shared-slice-read-hex-value-2
+    hex-value-requires-2
     returns-2
     add-i
     loop-less
