@@ -1,22 +1,22 @@
 -- Laws of forms: what the next letter and the next field or word say decides what all from them on say, and the numbers of one word
 -- behind those of another are the two of them joined. Assumes nothing.
-use mathlib.Core.Path.{_≡_, refl, sym, ap, _∙_}
+use mathlib.Core.Path.{_≡_, refl, ap, _∙_}
 use mathlib.Core.Bool.{Bool, true, false, cond}
-use mathlib.Core.List.{List, [], _∷_, _++_}
+use mathlib.Core.List.{List, [], _∷_}
 use Prim.Native.Nat.{ℕ, zero, suc, _+_, _-_, _≤_, _<_}
 use native.Mathlib.Omega.{arith}
 use native.Mathlib.Numerals.{add-one}
-use lib.Dec.{leb, ltb, eqb}
+use lib.Dec.{eqb}
 use lib.ListN.{length, getD, take, drop, drop-of-length-le}
 use lib.Seq.{drop-cons}
 use borrow.Author.Tests.{lt-ltb, le-ltb, le-leb, lt-leb}
-use Rattle.text.specs.Text.{put, Put}
+use Rattle.text.specs.Text.{Put}
 use Rattle.text.proofs.PutLaws.{join, put-nothing}
 use Rattle.line.specs.Words.{Word, run, wordsFrom, words, field, more, fields, same, part, wordAt, wordsAt}
 use Rattle.line.specs.declared.Said.{Said}
 use Rattle.line.specs.declared.Said.the-variants.{Number, NoNumber}
 use Rattle.line.proofs.WordLaws.{WordIs, part-cons, part-length}
-use Rattle.command.specs.Forms.{named, told, Told, ends, behind, letterThen, fieldsTold, capital, fits, listTold, leftTold, wordTold, mayEnd, placeOf, lineTold}
+use Rattle.command.specs.Forms.{named, told, Told, ends, behind, letterThen, fieldsTold, fits, listTold, leftTold, wordTold, mayEnd, placeOf, lineTold}
 use Rattle.command.specs.Commands.{table, byTable, remark, commandOf, textOf, verbAt, rowsOf}
 use Rattle.command.specs.Laid.{Lays, Parses}
 use Rattle.command.specs.declared.Verb.{Verb}

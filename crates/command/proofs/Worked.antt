@@ -1,6 +1,6 @@
 -- Lines worked by the definitions: each form once, each fault once, and the settings and records that lines say. Assumes nothing.
 use mathlib.Core.Path.{_≡_, refl}
-use mathlib.Core.List.{List, [], _∷_, _++_}
+use mathlib.Core.List.{List, [], _∷_}
 use Prim.Native.Nat.{ℕ}
 use lib.IntN.{ℤ, pos, negℤ}
 use lib.ListN.{replicate}
@@ -17,7 +17,7 @@ use Rattle.command.specs.Forms.{Told, named, told, fieldsTold, fits, lis
 use Rattle.command.specs.Commands.{byTable, commandOf}
 use Rattle.values.specs.Values.{each, settingsOf, recordsOf}
 use Rattle.command.specs.declared.Place.{Place}
-use Rattle.command.specs.declared.Verb.the-variants.{Open, Hear, Wind, Read, Write, FeedFile, Log, Help}
+use Rattle.command.specs.declared.Verb.the-variants.{Open, Hear, Wind, Read, FeedFile, Log, Help}
 use Rattle.command.specs.declared.Fault.the-variants.{NotACommand, WordCount, NotSuch, Misshapen}
 use Rattle.command.specs.declared.Command.{Command}
 use Rattle.command.specs.declared.Command.the-variants.{Nothing, Does, Wrong}

@@ -1,7 +1,7 @@
 -- Forms: what the words behind a command's name are, and the numbers that they say.
 -- A form has a letter for each word. Behind a colon stand the forms of the words of a list, which ends the line, with a letter for
 -- each field; where they begin with a capital, the one is taken whose capital is the word's first field.
-use mathlib.Core.Bool.{Bool, true, false, _&&_, _||_, cond}
+use mathlib.Core.Bool.{Bool, true, _&&_, cond}
 use mathlib.Core.List.{List, [], _∷_, _++_}
 use Prim.Native.Nat.{ℕ, suc, _+_}
 use lib.Dec.{leb, ltb, eqb}
@@ -14,7 +14,6 @@ use Rattle.line.specs.declared.Said.the-variants.{Number, NoNumber}
 use Rattle.hex.specs.Hex.{isHex}
 use Rattle.command.specs.declared.Verb.{Verb}
 use Rattle.command.specs.declared.Place.{Place}
-use Rattle.command.specs.declared.Fault.{Fault}
 use Rattle.command.specs.declared.Fault.the-variants as fault
 use Rattle.command.specs.declared.Flaw.{Flaw}
 use Rattle.command.specs.declared.Flaw.the-variants.{NoFlaw, NotSuch, Misshapen, LeftOver}

@@ -3,7 +3,7 @@ use mathlib.Core.Path.{_≡_, sym, ap, _∙_}
 use mathlib.Core.List.{List}
 use Prim.Native.Nat.{ℕ}
 use native.Mathlib.Omega.{arith}
-use lib.ListN.{length, take}
+use lib.ListN.{take}
 use Rattle.line.specs.Words.{field, same, part}
 use Rattle.line.proofs.FieldLaws.{end-inside, end-first, field-first}
 use Rattle.command.proofs.FormLaws.{fits-none, fits-low, fits-high, fits-capital}

@@ -1,13 +1,12 @@
 -- `lay_word` meets its contract: by the letter of its number, or by the forms of the list. Assumes nothing.
-use mathlib.Core.Path.{_≡_, sym, ap, _∙_}
-use mathlib.Core.List.{List}
-use Prim.Native.Nat.{ℕ, _+_}
+use mathlib.Core.Path.{sym, _∙_}
+use Prim.Native.Nat.{_+_}
 use native.Mathlib.Omega.{arith}
 use lib.ListN.{length, getD}
 use Rattle.text.proofs.PutLaws.{put-inside}
-use Rattle.line.specs.Words.{field, more, fieldsAt}
+use Rattle.line.specs.Words.{field}
 use Rattle.line.proofs.FieldLaws.{fields-here, fields-past, field-fits, more-first}
-use Rattle.command.specs.Forms.{ends, listTold}
+use Rattle.command.specs.Forms.{ends}
 use Rattle.command.specs.declared.Flaw.the-variants.{NoFlaw, NotSuch, LeftOver}
 use Rattle.command.proofs.FormLaws.{lays-ends, lays-one, such-told, not-such, fixed-told, left-told, left-over, left-listed}
 use borrow.Author.Needs.{needs}

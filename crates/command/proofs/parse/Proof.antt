@@ -1,5 +1,4 @@
 -- `parse` meets its contract: by the first word, nothing or a row of the table. Assumes nothing.
-use mathlib.Core.Path.{sym, _∙_}
 use native.Mathlib.Omega.{arith}
 use borrow.Author.Tests.{eq-eqb, ne-eqb}
 use Rattle.line.proofs.WordLaws.{word-is, word-end-is}

@@ -1,6 +1,6 @@
 -- `natural` meets its contract: the digits that are left, behind the number so far, say what all of them say. Assumes nothing.
 use mathlib.Core.Path.{_≡_, sym, ap, _∙_}
-use Prim.Native.Nat.{_+_, _-_, _*_, _≤_}
+use Prim.Native.Nat.{_+_, _-_, _≤_}
 use native.Mathlib.Omega.{arith}
 use lib.ListN.{length, getD, drop}
 use Rattle.line.specs.Numeral.{natural, upTo}

@@ -7,7 +7,6 @@ use native.Mathlib.Omega.{arith}
 use lib.ListN.{length}
 use Rattle.line.specs.Words.{part}
 use Rattle.line.specs.Numeral.{natural, minus, upTo, less, plus}
-use Rattle.line.specs.declared.Said.{Said}
 use Rattle.line.specs.declared.Said.the-variants.{Number}
 use Rattle.line.proofs.WordLaws.{rest}
 use Rattle.line.proofs.NumeralLaws.{minus-some, up-to-most, signed-minus, signed-plain}

@@ -1,7 +1,6 @@
 -- `records_of` meets its contract: the records that are left, behind those that were made, are all of them. Assumes nothing.
 use mathlib.Core.Path.{_≡_, refl, sym, _∙_}
 use Prim.Native.Nat.{_-_}
-use native.Mathlib.Omega.{arith}
 use lib.ListN.{length, length-set}
 use lib.Seq.{sets}
 use Rattle.values.specs.Values.{each, recordOf, recordsOf}

@@ -1,6 +1,5 @@
 -- `unit_of` meets its contract: by its test. Assumes nothing.
 use borrow.Author.Tests.{eq-eqb, ne-eqb}
-use borrow.Author.Needs.{needs}
 use Rattle.values.proofs.unit_of.Statement.{statement}
 use Rattle.values.proofs.unit_of.Tie as tie
 
