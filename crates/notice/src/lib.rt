@@ -38,8 +38,8 @@ fn put_wrong(text: &mut [u8], at: usize, words: &[u8], p: Place) -> usize
     ensures { λ r. ⌜ Put (now (text .entry)) (now (text .exit)) at (wrongLine (now (words .entry)) p) r ⌝ }
 {
     let told = text::put_bytes(text, at, words);
-    let where_at = text::put_bytes(text, told, b", at");
-    let behind = text::put_field(text, where_at, p.from as u64);
+    let led = text::put_bytes(text, told, b", at");
+    let behind = text::put_field(text, led, p.from as u64);
     answer::put_line(text, behind, b"; help lists the commands")
 }
 

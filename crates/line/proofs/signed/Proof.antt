@@ -11,7 +11,6 @@ use Rattle.line.specs.declared.Said.the-variants.{Number}
 use Rattle.line.proofs.WordLaws.{rest}
 use Rattle.line.proofs.NumeralLaws.{minus-some, up-to-most, signed-minus, signed-plain}
 use borrow.Author.Needs.{needs}
-use borrow.Author.Needs.{needs}
 use Rattle.line.proofs.signed.Statement.{statement}
 use Rattle.line.proofs.signed.Tie as tie
 

@@ -8,7 +8,6 @@ use Rattle.line.specs.Numeral.{natural, minus, upTo}
 use Rattle.line.proofs.WordLaws.{rest}
 use Rattle.line.proofs.NumeralLaws.{minus-some, whole-minus, whole-plain}
 use borrow.Author.Needs.{needs}
-use borrow.Author.Needs.{needs}
 use Rattle.line.proofs.whole.Statement.{statement}
 use Rattle.line.proofs.whole.Tie as tie
 
