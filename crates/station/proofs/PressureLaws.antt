@@ -21,7 +21,8 @@ use Rattle.pressure.specs.declared.WorkedPressure.{WorkedPressure}
 use Rattle.pressure.specs.declared.WorkedPressure.the-variants.{Given, OutsideLimits, OutsideCertificate}
 use Rattle.pressure.proofs.SizeLaws.{sea-level-stored}
 use Rattle.station.specs.Source.{Source, held, first}
-use Rattle.station.specs.Questions.{Answers, missingAt, outsideAt, seaLevelAt, Change, PressureRule, tendencyTests, TendencyRule}
+use Rattle.station.specs.Questions.{Answers, missingAt, outsideAt, seaLevelAt, PressureRule, tendencyTests, TendencyRule}
+use Rattle.station.specs.Told.{Change}
 use Rattle.station.specs.Parts.{TellsAt}
 use Rattle.station.specs.declared.AtMinute.{AtMinute}
 use Rattle.station.specs.declared.AtMinute.the-variants.{NotKept, Outside, SeaLevel}

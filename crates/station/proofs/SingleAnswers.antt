@@ -2,7 +2,7 @@
 -- a refusal is told by its number and extras, and each rule allows one figure. Assumes nothing.
 use mathlib.Core.Path.{_≡_, refl, sym, ap, _∙_}
 use mathlib.Core.Bool.{cond}
-use mathlib.Core.List.{List, [], _∷_}
+use mathlib.Core.List.{List, [], _++_}
 use Prim.Native.Nat.{ℕ}
 use denote.Ref.{now}
 use lib.Dec.{eqb}
@@ -21,8 +21,9 @@ use Rattle.wind.proofs.WindTheorems.{single-wind}
 use Rattle.humidity.specs.declared.HumidityFigures.{HumidityFigures}
 use Rattle.humidity.proofs.SingleAnswers.{one-humidity}
 use Rattle.station.specs.Source.{Source, held, first, second}
-use Rattle.station.specs.Questions.{Change, TendencyRule, PressureRule, WindRule, HumidityRule, pressureTests, tendencyTests, windTests, humidityTests, dryAt, wetAt, stationAt, foreign}
-use Rattle.station.specs.Told.{refusalOf, pressureAs, tendencyAs, windAs, humidityAs, TellsPressure, TellsTendency, TellsWind, TellsHumidity}
+use Rattle.station.specs.Questions.{Asked, question, Reply, AnsweredBy, TellsOf, TendencyRule, dryAt, wetAt, stationAt}
+use Rattle.station.specs.Questions as asked
+use Rattle.station.specs.Told.{Change, refusalOf, pressureAs, tendencyAs, windAs, humidityAs}
 use Rattle.station.specs.declared.QuestionRefusal.{QuestionRefusal}
 use Rattle.station.specs.declared.QuestionRefusal.the-variants.{MinuteTooLate, OutsideLimits, MissingReading, OutsideCertificate, WetAboveDry, NoThreeHours, TooDry}
 use Rattle.station.specs.declared.PressureAnswer.{PressureAnswer}
@@ -95,15 +96,6 @@ unfolding pressure-of tenths
 pressure-back (pressed.Refused r) = ap pressed.Refused (refusal-back r)
 pressure-back (pressed.Given p) = refl
 
-pub one-pressure : (S : Source) (m : ℕ) (r r′ : PressureAnswer) → TellsPressure S m r → TellsPressure S m r′ → r ≡ r′
-one-pressure S m r r′ p q =
-    sym (pressure-back r)
-    ∙ ap pressure-of (one-answer (pressureTests S m) (PressureRule S m) (λ x y v w. v ∙ sym w) (pressureAs r) (pressureAs r′) p q)
-    ∙ pressure-back r′
-
-pub single-pressure : Single pressure.Post
-single-pressure κs a r r′ s s′ p q = one-pressure (held (now (a .0))) (a .1 .0) r r′ p q
-
 -- ---- tendency
 
 change-of : ℤ → ℕ → Change
@@ -125,15 +117,6 @@ unfolding tendency-of tenths
 tendency-back (changed.Refused r) = ap changed.Refused (refusal-back r)
 tendency-back (changed.Given c n) = refl
 
-pub one-tendency : (S : Source) (m : ℕ) (r r′ : TendencyAnswer) → TellsTendency S m r → TellsTendency S m r′ → r ≡ r′
-one-tendency S m r r′ p q =
-    sym (tendency-back r)
-    ∙ ap tendency-of (one-answer (tendencyTests S m) (TendencyRule S m) (one-change S m) (tendencyAs r) (tendencyAs r′) p q)
-    ∙ tendency-back r′
-
-pub single-tendency : Single tendency.Post
-single-tendency κs a r r′ s s′ p q = one-tendency (held (now (a .0))) (a .1 .0) r r′ p q
-
 -- ---- wind
 
 wind-of : Answer Numbered TrueWind → WindAnswer
@@ -146,18 +129,6 @@ unfolding wind-of
 wind-back (blew.Refused r) = ap blew.Refused (refusal-back r)
 wind-back (blew.Given v d) = refl
 
-pub one-wind : (S : Source) (m : ℕ) (r r′ : WindAnswer) → TellsWind S m r → TellsWind S m r′ → r ≡ r′
-one-wind S m r r′ p q =
-    sym (wind-back r)
-    ∙ ap wind-of
-    (one-answer (windTests S m) (WindRule S m)
-    (single-wind (natAbs (second (S .recall 3 m))) (natAbs (first (S .recall 3 m))) (natAbs (first (S .recall 2 m))) (natAbs (second (S .recall 2 m))))
-    (windAs r) (windAs r′) p q)
-    ∙ wind-back r′
-
-pub single-wind-answer : Single wind.Post
-single-wind-answer κs a r r′ s s′ p q = one-wind (held (now (a .0))) (a .1 .0) r r′ p q
-
 -- ---- humidity
 
 humidity-of : Answer Numbered HumidityFigures → HumidityAnswer
@@ -169,13 +140,50 @@ unfolding humidity-of
 humidity-back (moist.Refused r) = ap moist.Refused (refusal-back r)
 humidity-back (moist.Given h) = refl
 
-pub one-humidity-answer : (more : List (Test Numbered)) (S : Source) (m : ℕ) (r r′ : HumidityAnswer) → TellsHumidity more S m r → TellsHumidity more S m r′ → r ≡ r′
-one-humidity-answer more S m r r′ p q =
+-- ---- each question
+
+-- the answer of a number or of figures, of which none is another's
+answer-of : (q : Asked) → Answer Numbered (question q .Figures) → Reply q
+answer-of asked.pressure = pressure-of
+answer-of asked.tendency = tendency-of
+answer-of asked.wind = wind-of
+answer-of asked.humidity = humidity-of
+
+answer-back : (q : Asked) (r : Reply q) → answer-of q (question q .told r) ≡ r
+unfolding answer-of
+answer-back asked.pressure = pressure-back
+answer-back asked.tendency = tendency-back
+answer-back asked.wind = wind-back
+answer-back asked.humidity = humidity-back
+
+-- its rule allows one figure
+one-figure : (q : Asked) (S : Source) (m : ℕ) (x y : question q .Figures) → question q .Rule S m x → question q .Rule S m y → x ≡ y
+one-figure asked.pressure S m x y v w = v ∙ sym w
+one-figure asked.tendency S m x y v w = one-change S m x y v w
+one-figure asked.wind S m x y v w =
+    single-wind (natAbs (second (S .recall 3 m))) (natAbs (first (S .recall 3 m))) (natAbs (first (S .recall 2 m))) (natAbs (second (S .recall 2 m))) x y v w
+one-figure asked.humidity S m x y v w = one-humidity (dryAt S m) (wetAt S m) (stationAt S m) (S .psychrometer) x y v w
+
+pub one-reply : (q : Asked) (before more : List (Test Numbered)) (S : Source) (m : ℕ) (r r′ : Reply q)
+    → AnsweredBy q before more S m r → AnsweredBy q before more S m r′ → r ≡ r′
+one-reply q before more S m r r′ v w =
     let t = the-table in
-    sym (humidity-back r)
-    ∙ ap humidity-of
-    (one-answer (humidityTests more (t .0) S m) (HumidityRule S m) (one-humidity (dryAt S m) (wetAt S m) (stationAt S m) (S .psychrometer)) (humidityAs r) (humidityAs r′) (p (t .0) (t .1)) (q (t .0) (t .1)))
-    ∙ humidity-back r′
+    sym (answer-back q r)
+    ∙ ap (answer-of q)
+    (one-answer (before ++ question q .tests more (t .0) S m) (question q .Rule S m) (one-figure q S m) (question q .told r) (question q .told r′) (v (t .0) (t .1)) (w (t .0) (t .1)))
+    ∙ answer-back q r′
+
+one-of : (q : Asked) (s : List ℕ) (m : ℕ) (r r′ : Reply q) → TellsOf q s m r → TellsOf q s m r′ → r ≡ r′
+one-of q s m = one-reply q [] (question q .foreign (held s) m) (held s) m
+
+pub single-pressure : Single pressure.Post
+single-pressure κs a r r′ s s′ = one-of asked.pressure (now (a .0)) (a .1 .0) r r′
+
+pub single-tendency : Single tendency.Post
+single-tendency κs a r r′ s s′ = one-of asked.tendency (now (a .0)) (a .1 .0) r r′
+
+pub single-wind-answer : Single wind.Post
+single-wind-answer κs a r r′ s s′ = one-of asked.wind (now (a .0)) (a .1 .0) r r′
 
 pub single-humidity : Single humidity.Post
-single-humidity κs a r r′ s s′ p q = let S = held (now (a .0)) in one-humidity-answer (foreign S (a .1 .0)) S (a .1 .0) r r′ p q
+single-humidity κs a r r′ s s′ = one-of asked.humidity (now (a .0)) (a .1 .0) r r′

@@ -1,4 +1,4 @@
 pub mod Source
-pub mod Questions
 pub mod Told
+pub mod Questions
 pub mod Parts

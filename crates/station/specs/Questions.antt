@@ -1,6 +1,6 @@
--- The four questions: in which order they are tested, and by which rule their figures are worked.
+-- The four questions: in which order they are tested, by which rule their figures are worked, and what they read.
 use mathlib.Core.Path.{_≡_}
-use mathlib.Core.Bool.{Bool, not, _&&_}
+use mathlib.Core.Bool.{Bool, not, _&&_, _||_, cond}
 use mathlib.Core.List.{List, [], _∷_, _++_}
 use Prim.Native.Nat.{ℕ, _-_}
 use lib.Dec.{ltb}
@@ -10,11 +10,17 @@ use Rattle.quantity.specs.Limits.{lastMinute, inside, recordedPressure}
 use Rattle.settings.specs.Settings as settings
 use Rattle.store.specs.History.{isPresent}
 use Rattle.pressure.specs.Pressure.{outside, seaLevel, stationPressure}
+use Rattle.vapour.specs.Vapour.{IsTable}
 use Rattle.wind.specs.Answer.{IsWind}
 use Rattle.wind.specs.declared.TrueWind.{TrueWind}
 use Rattle.humidity.specs.Humidity.{vapourPressure, wetAboveDry, tooDry, IsHumidity}
 use Rattle.humidity.specs.declared.HumidityFigures.{HumidityFigures}
-use Rattle.station.specs.Source.{Source, first, second}
+use Rattle.station.specs.Source.{Source, held, first, second}
+use Rattle.station.specs.Told.{Change, pressureAs, tendencyAs, windAs, humidityAs}
+use Rattle.station.specs.declared.PressureAnswer.{PressureAnswer}
+use Rattle.station.specs.declared.TendencyAnswer.{TendencyAnswer}
+use Rattle.station.specs.declared.WindAnswer.{WindAnswer}
+use Rattle.station.specs.declared.HumidityAnswer.{HumidityAnswer}
 
 -- ---- the reasons
 
@@ -55,11 +61,6 @@ abbrev pub PressureRule : Source → ℕ → ℤ → Type 0
 PressureRule S m p = p ≡ seaLevelAt S m
 
 -- ---- tendency
-
--- A change of pressure, and how many minutes are absent.
-pub record Change : Type 0 where
-  pub change : ℤ
-  pub absent : ℕ
 
 -- "then 11 by minute, the earlier first, then channel, then 12 by minute likewise"
 abbrev pub tendencyTests : Source → ℕ → List (Test Numbered)
@@ -117,3 +118,83 @@ HumidityRule S m h = IsHumidity (dryAt S m) (wetAt S m) (stationAt S m) (S .psyc
 -- 7: the station pressure or A is outside its limits, which happens only in a block that no opening made (`never-foreign`).
 abbrev pub foreign : Source → ℕ → List (Test Numbered)
 foreign S m = test 7 [] (not (inside recordedPressure (stationAt S m) && inside settings.psychrometer (S .psychrometer))) ∷ []
+
+-- ---- the four, row by row
+
+pub data Asked : Type 0 where
+  pressure tendency wind humidity : Asked
+
+-- What a question's function returns, and the figures that it tells; the tests in their order, with a table of saturation and with
+-- tests that document 01 does not have; what those are of a block; the rule of the figures; and, "Which channels feed what", the
+-- channels, and the minutes of them that are read where it is asked at one: none where it is refused 5 or 14.
+pub record Question : Type 1 where
+  pub Reply : Type 0
+  pub Figures : Type 0
+  pub told : Reply → Answer Numbered Figures
+  pub tests : List (Test Numbered) → (ℤ → ℕ) → Source → ℕ → List (Test Numbered)
+  pub foreign : Source → ℕ → List (Test Numbered)
+  pub Rule : Source → ℕ → Figures → Type 0
+  pub channels : List ℕ
+  pub minutes : ℕ → List ℕ
+
+abbrev pub question : Asked → Question
+question pressure =
+    record {
+      Reply = PressureAnswer;
+      Figures = ℤ;
+      told = pressureAs;
+      tests = λ more table. pressureTests;
+      foreign = λ S m. [];
+      Rule = PressureRule;
+      channels = 0 ∷ 1 ∷ [];
+      minutes = λ m. cond (tooLate m .holds) [] (m ∷ []);
+    }
+question tendency =
+    record {
+      Reply = TendencyAnswer;
+      Figures = Change;
+      told = tendencyAs;
+      tests = λ more table. tendencyTests;
+      foreign = λ S m. [];
+      Rule = λ S m t. TendencyRule S m t;
+      channels = 0 ∷ 1 ∷ [];
+      minutes = λ m. cond (tooLate m .holds || noThreeHours m .holds) [] (m ∷ (m - 180) ∷ []);
+    }
+question wind =
+    record {
+      Reply = WindAnswer;
+      Figures = TrueWind;
+      told = windAs;
+      tests = λ more table. windTests;
+      foreign = λ S m. [];
+      Rule = WindRule;
+      channels = 2 ∷ 3 ∷ [];
+      minutes = λ m. cond (tooLate m .holds) [] (m ∷ []);
+    }
+question humidity =
+    record {
+      Reply = HumidityAnswer;
+      Figures = HumidityFigures;
+      told = humidityAs;
+      tests = humidityTests;
+      foreign = foreign;
+      Rule = HumidityRule;
+      channels = 0 ∷ 4 ∷ 5 ∷ [];
+      minutes = λ m. cond (tooLate m .holds) [] (m ∷ []);
+    }
+
+abbrev pub Reply : Asked → Type 0
+Reply q = question q .Reply
+
+-- A question asked at minute m is answered by r: with document 01's tests, some before them and more among them, whatever the table.
+abbrev pub AnsweredBy : (q : Asked) → List (Test Numbered) → List (Test Numbered) → Source → ℕ → Reply q → Type 0
+AnsweredBy q before more S m r =
+    (table : ℤ → ℕ) → IsTable table → Answers (before ++ question q .tests more table S m) (question q .Rule S m) (question q .told r)
+
+-- What document 01 says that the answer is, of settings and messages heard.
+abbrev pub Tells : (q : Asked) → Source → ℕ → Reply q → Type 0
+Tells q S m r = AnsweredBy q [] [] S m r
+
+-- What each function promises of the block that it is asked, whatever that holds.
+abbrev pub TellsOf : (q : Asked) → List ℕ → ℕ → Reply q → Type 0
+TellsOf q s m r = AnsweredBy q [] (question q .foreign (held s) m) (held s) m r

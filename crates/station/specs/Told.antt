@@ -1,10 +1,9 @@
--- Document 01's number and values of each case of an answer, and what each question promises.
+-- Document 01's number and values of each case of an answer.
 use mathlib.Core.Path.{_≡_}
 use mathlib.Core.List.{List, [], _∷_}
 use Prim.Native.Nat.{ℕ}
 use lib.IntN.{ℤ}
-use Rattle.number.specs.Refusal.{Numbered, numbered, Test, Answer, refused, given}
-use Rattle.vapour.specs.Vapour.{IsTable}
+use Rattle.number.specs.Refusal.{Numbered, numbered, Answer, refused, given}
 use Rattle.wind.specs.declared.TrueWind.{TrueWind}
 use Rattle.wind.specs.declared.TrueWind.the-variants.{Blows}
 use Rattle.humidity.specs.declared.HumidityFigures.{HumidityFigures}
@@ -18,8 +17,6 @@ use Rattle.station.specs.declared.WindAnswer.{WindAnswer}
 use Rattle.station.specs.declared.WindAnswer.the-variants as wind
 use Rattle.station.specs.declared.HumidityAnswer.{HumidityAnswer}
 use Rattle.station.specs.declared.HumidityAnswer.the-variants as humidity
-use Rattle.station.specs.Source.{Source}
-use Rattle.station.specs.Questions.{Answers, Change, pressureTests, PressureRule, tendencyTests, TendencyRule, windTests, WindRule, humidityTests, HumidityRule}
 
 abbrev pub refusalOf : QuestionRefusal → Numbered
 refusalOf MinuteTooLate = numbered 5 []
@@ -29,6 +26,11 @@ refusalOf (OutsideCertificate m) = numbered 12 (m .0 ∷ [])
 refusalOf WetAboveDry = numbered 13 []
 refusalOf NoThreeHours = numbered 14 []
 refusalOf TooDry = numbered 15 []
+
+-- A change of pressure in tenths of hPa, and how many minutes are absent.
+pub record Change : Type 0 where
+  pub change : ℤ
+  pub absent : ℕ
 
 -- tenths of hPa
 abbrev pub pressureAs : PressureAnswer → Answer Numbered ℤ
@@ -46,18 +48,3 @@ windAs (wind.Refused r) = refused (refusalOf r)
 abbrev pub humidityAs : HumidityAnswer → Answer Numbered HumidityFigures
 humidityAs (humidity.Given h) = given h
 humidityAs (humidity.Refused r) = refused (refusalOf r)
-
--- ---- what the questions promise, of any source
-
-abbrev pub TellsPressure : Source → ℕ → PressureAnswer → Type 0
-TellsPressure S m r = Answers (pressureTests S m) (PressureRule S m) (pressureAs r)
-
-abbrev pub TellsTendency : Source → ℕ → TendencyAnswer → Type 0
-TellsTendency S m r = Answers (tendencyTests S m) (TendencyRule S m) (tendencyAs r)
-
-abbrev pub TellsWind : Source → ℕ → WindAnswer → Type 0
-TellsWind S m r = Answers (windTests S m) (WindRule S m) (windAs r)
-
--- With any table; `more` are tests that document 01 does not have.
-abbrev pub TellsHumidity : List (Test Numbered) → Source → ℕ → HumidityAnswer → Type 0
-TellsHumidity more S m r = (table : ℤ → ℕ) → IsTable table → Answers (humidityTests more table S m) (HumidityRule S m) (humidityAs r)

@@ -10,8 +10,8 @@ ghost use Rattle.wind.specs.Answer.{withinLimits};
 ghost use Rattle.store.specs.Block.{openedBy, recallOf, Hears};
 ghost use Rattle.cell.specs.Cells.{recalled};
 ghost use Rattle.station.specs.Source.{held};
-ghost use Rattle.station.specs.Questions.{foreign};
-ghost use Rattle.station.specs.Told.{TellsPressure, TellsTendency, TellsWind, TellsHumidity};
+ghost use Rattle.station.specs.Questions.{TellsOf};
+ghost use Rattle.station.specs.Questions as asked;
 ghost use Rattle.station.specs.Parts.{Reads, PressureReady, Works, HumidityReady, Blowing, Moist, TellsAt};
 use block::Store;
 use cell::Recalled;
@@ -174,7 +174,7 @@ fn sea_level_at(store: &Store, minute: u32) -> AtMinute
 
 // The pressure at sea level.
 pub fn pressure(store: &Store, minute: u32) -> PressureAnswer
-    ensures { λ r. ⌜ TellsPressure (held (now (store .entry))) minute r ⌝ }
+    ensures { λ r. ⌜ TellsOf asked.pressure (now (store .entry)) minute r ⌝ }
 {
     if !Minute::holds(minute) {
         return PressureAnswer::Refused(QuestionRefusal::MinuteTooLate);
@@ -192,7 +192,7 @@ pub fn pressure(store: &Store, minute: u32) -> PressureAnswer
 
 // Its change since three hours before, and how many barometer minutes between are absent.
 pub fn tendency(store: &Store, minute: u32) -> TendencyAnswer
-    ensures { λ r. ⌜ TellsTendency (held (now (store .entry))) minute r ⌝ }
+    ensures { λ r. ⌜ TellsOf asked.tendency (now (store .entry)) minute r ⌝ }
 {
     if !Minute::holds(minute) {
         return TendencyAnswer::Refused(QuestionRefusal::MinuteTooLate);
@@ -251,7 +251,7 @@ fn blowing(course: Number, ship: Number, apparent: Number, from_bow: Number) -> 
 
 // The true wind.
 pub fn wind(store: &Store, minute: u32) -> WindAnswer
-    ensures { λ r. ⌜ TellsWind (held (now (store .entry))) minute r ⌝ }
+    ensures { λ r. ⌜ TellsOf asked.wind (now (store .entry)) minute r ⌝ }
 {
     if !Minute::holds(minute) {
         return WindAnswer::Refused(QuestionRefusal::MinuteTooLate);
@@ -296,7 +296,7 @@ fn moist(store: &Store, minute: u32, reading: Number, dry: Number, wet: Number) 
 
 // Vapour pressure, saturation, deficit, relative humidity and dew point.
 pub fn humidity(store: &Store, minute: u32) -> HumidityAnswer
-    ensures { λ r. ⌜ TellsHumidity (foreign (held (now (store .entry))) minute) (held (now (store .entry))) minute r ⌝ }
+    ensures { λ r. ⌜ TellsOf asked.humidity (now (store .entry)) minute r ⌝ }
 {
     if !Minute::holds(minute) {
         return HumidityAnswer::Refused(QuestionRefusal::MinuteTooLate);

@@ -10,7 +10,8 @@ use borrow.Author.Tests.{not-true, not-false, lt-ltb, le-ltb}
 use Rattle.number.specs.Refusal.{Numbered, Test, Answer}
 use Rattle.pressure.specs.Pressure.{outside}
 use Rattle.station.specs.Source.{Source, held, first}
-use Rattle.station.specs.Questions.{Answers, tooLate, noThreeHours, missingAt, seaLevelAt, Change, TendencyRule, PressureRule}
+use Rattle.station.specs.Questions.{Answers, tooLate, noThreeHours, missingAt, seaLevelAt, TendencyRule, PressureRule}
+use Rattle.station.specs.Told.{Change}
 use Rattle.station.specs.Parts.{TellsAt}
 use Rattle.station.specs.declared.AtMinute.{AtMinute}
 use Rattle.station.specs.declared.AtMinute.the-variants.{NotKept, SeaLevel}
@@ -104,11 +105,13 @@ holds-requires c κs = search needs
 
 returns : tie.Need-returns
 returns c =
+    λ table tabled.
     let a = c .before .before .args in
     stop _ _ _ (late (a .minute) _ (c .before .holds .ensures) (not-true _ (c .if1 .taken)))
 
 returns-2 : tie.Need-returns-2
 returns-2 c =
+    λ table tabled.
     let a = c .before .before .before .args in
     pass _ _ _ _ (timely (a .minute) _ (c .before .before .holds .ensures) (not-false _ (c .before .if1 .left)))
     (stop _ _ _ (lt-ltb (a .minute) 180 (c .if2 .taken)))
@@ -125,6 +128,7 @@ enum-known-earlier c = search needs
 returns-3 : tie.Need-returns-3
 unfolding source minute
 returns-3 c =
+    λ table tabled.
     let at = c .before .before .before in
     let p = c .before .earlier .given in
     front (at .before .before) _ _
@@ -136,6 +140,7 @@ enum-known-later c = search needs
 returns-4 : tie.Need-returns-4
 unfolding source minute
 returns-4 c =
+    λ table tabled.
     let at = c .before .before .before .before in
     let q = c .before .later .given in
     let there = at-there (S at) (m at - 180) (at .before .sea-level-at .result) (c .before .before .before .match .keys2) (earlier-is at) in
@@ -149,6 +154,7 @@ enum-known-earlier-2 c = search needs
 returns-5 : tie.Need-returns-5
 unfolding source minute
 returns-5 c =
+    λ table tabled.
     let both = at (c .before) in
     certified (c .before) _ _
     (stop _ _ _ (at-no-pressure (S both) (m both - 180) (both .before .sea-level-at .result) (c .before .before .match .keys2) (c .match3 .keys2) (earlier-is both)))
@@ -159,6 +165,7 @@ enum-known-later-2 c = search needs
 returns-6 : tie.Need-returns-6
 unfolding source minute
 returns-6 c =
+    λ table tabled.
     let there = found (c .before) in
     let both = at there in
     certified there _ _
@@ -181,6 +188,7 @@ missing-minutes-requires c κs = search needs
 returns-7 : tie.Need-returns-7
 unfolding source minute
 returns-7 c =
+    λ table tabled.
     let told = c .before .before .before .before in
     let p = earlier-given (told .before .before .before) in
     let q = later-given told in

@@ -30,7 +30,7 @@ holds-requires : tie.Need-holds-requires
 holds-requires c κs = search needs
 
 returns : tie.Need-returns
-returns c = stop _ _ _ (late (c .before .before .args .minute) _ (c .before .holds .ensures) (not-true _ (c .if1 .taken)))
+returns c = λ table tabled. stop _ _ _ (late (c .before .before .args .minute) _ (c .before .holds .ensures) (not-true _ (c .if1 .taken)))
 
 read-at-requires : tie.Need-read-at-requires
 read-at-requires c κs = search needs
@@ -63,12 +63,14 @@ blowing-requires c κs =
 
 returns-2 : tie.Need-returns-2
 returns-2 c =
+    λ table tabled.
     let at = c .before .before in
     pass _ _ _ _ (timely (at .before .before .before .args .minute) _ (at .before .before .holds .ensures) (not-false _ (at .before .if1 .left)))
     (stop _ _ _ (ap not (apparent-is at NotThere (c .enum-told .given .1))))
 
 returns-3 : tie.Need-returns-3
 returns-3 c =
+    λ table tabled.
     let two = c .before .before in
     let found = two .before .before .apparent .given in
     let at = two .before .before .before .before in
@@ -78,6 +80,7 @@ returns-3 c =
 
 returns-4 : tie.Need-returns-4
 returns-4 c =
+    λ table tabled.
     let two = c .before .before .before .before in
     let found = two .before .before .apparent .given in
     let moved = c .before .before .ship .given in
