@@ -1,4 +1,3 @@
-pub mod SourceLaws
 pub mod StoreLaws
 pub mod FedLaws
 pub mod ReplacedLaws

@@ -69,6 +69,20 @@ unfolding Answers
 carry ts us Rule Rule′ (refused r) e f w = sym e ∙ w
 carry ts us Rule Rule′ (given x) e f w = (sym e ∙ w .0, f x (w .1))
 
+-- the same first test, which refuses: whatever stands behind it
+pub stopped : {A : Type 0} (t : Test Numbered) (ts us : List (Test Numbered)) (Rule Rule′ : A → Type 0) (a : Answer Numbered A)
+    → t .holds ≡ true → Answers (t ∷ ts) Rule a → Answers (t ∷ us) Rule′ a
+unfolding answer Answers
+stopped t ts us Rule Rule′ (refused r) h w = rw h (rw h at w)
+stopped t ts us Rule Rule′ (given x) h w = absurd (let e = rw h at (w .0) in let z : _≡_ {A = ℕ} 0 1 = cc in omega arith)
+
+-- so with the second of the same two
+pub stopped-next : {A : Type 0} (s t : Test Numbered) (ts us : List (Test Numbered)) (Rule Rule′ : A → Type 0) (a : Answer Numbered A)
+    → t .holds ≡ true → Answers (s ∷ t ∷ ts) Rule a → Answers (s ∷ t ∷ us) Rule′ a
+unfolding answer Answers
+stopped-next s t ts us Rule Rule′ (refused r) h w = rw h (rw h at w)
+stopped-next s t ts us Rule Rule′ (given x) h w = absurd (let e = lets-pass t ts (lets-pass s (t ∷ ts) (w .0) .1) .0 in let z : _≡_ {A = ℕ} 0 1 = cc in omega arith)
+
 -- a rule that allows one figure allows one answer
 pub one-answer : {A : Type 0} (ts : List (Test Numbered)) (Rule : A → Type 0) → ((x y : A) → Rule x → Rule y → x ≡ y)
     → (a b : Answer Numbered A) → Answers ts Rule a → Answers ts Rule b → a ≡ b

@@ -4,3 +4,4 @@ pub mod PressureLaws
 pub mod WindLaws
 pub mod HumidityLaws
 pub mod SingleAnswers
+pub mod SourceLaws

@@ -1,9 +1,9 @@
 -- The four questions: in which order they are tested, by which rule their figures are worked, and what they read.
 use mathlib.Core.Path.{_≡_}
-use mathlib.Core.Bool.{Bool, not, _&&_, _||_, cond}
+use mathlib.Core.Bool.{Bool, false, not, _&&_, _||_, cond}
 use mathlib.Core.List.{List, [], _∷_, _++_}
 use Prim.Native.Nat.{ℕ, _-_}
-use lib.Dec.{ltb}
+use lib.Dec.{eqb, ltb}
 use lib.IntN.{ℤ, natAbs, _-ℤ_}
 use Rattle.number.specs.Refusal.{Numbered, numbered, Test, Answer, refused, given, answer}
 use Rattle.quantity.specs.Limits.{lastMinute, inside, recordedPressure}
@@ -182,6 +182,14 @@ question humidity =
       channels = 0 ∷ 4 ∷ 5 ∷ [];
       minutes = λ m. cond (tooLate m .holds) [] (m ∷ []);
     }
+
+abbrev pub isIn : List ℕ → ℕ → Bool
+isIn [] c = false
+isIn (d ∷ cs) c = eqb c d || isIn cs c
+
+-- Whether it reads the value of a channel's minute j.
+abbrev pub reads : Asked → ℕ → ℕ → ℕ → Bool
+reads q m c j = isIn (question q .channels) c && isIn (question q .minutes m) j
 
 abbrev pub Reply : Asked → Type 0
 Reply q = question q .Reply
