@@ -3,10 +3,11 @@
 use mathlib.Core.Path.{_≡_, refl, sym, ap, _∙_}
 use mathlib.Core.Bool.{Bool, true, false, _&&_, _||_, cond}
 use mathlib.Core.List.{List, [], _∷_}
-use Prim.Native.Nat.{ℕ, _-_}
+use Prim.Native.Nat.{ℕ}
 use native.Mathlib.Omega.{arith}
 use lib.Dec.{eqb}
 use borrow.Author.Tests.{eqb-true}
+use Rattle.number.proofs.Sizes.{and-true}
 use Rattle.quantity.specs.declared.BarometerUnit.{BarometerUnit}
 use Rattle.message.specs.Receive.{Entry}
 use Rattle.settings.specs.declared.Settings.{Settings}
@@ -16,15 +17,11 @@ use Rattle.store.proofs.StoreTheorems.{own-messages}
 use Rattle.pressure.specs.Pressure.{Barometer}
 use Rattle.pressure.proofs.PressureTheorems.{Alike}
 use Rattle.station.specs.Source.{heard}
-use Rattle.station.specs.Told.{TellsPressure, TellsTendency, TellsWind, TellsHumidity}
-use Rattle.heard.specs.Feeds.{pressureChannels, windChannels, humidityChannels, feeds, fed, isIn}
-use Rattle.station.specs.declared.PressureAnswer.{PressureAnswer}
-use Rattle.station.specs.declared.TendencyAnswer.{TendencyAnswer}
-use Rattle.station.specs.declared.WindAnswer.{WindAnswer}
-use Rattle.station.specs.declared.HumidityAnswer.{HumidityAnswer}
-use Rattle.heard.proofs.SourceLaws.{tells-pressure, tells-tendency, tells-wind, tells-humidity}
+use Rattle.station.specs.Questions.{Asked, question, Reply, isIn, Tells}
+use Rattle.heard.specs.Feeds.{feeds, fed, fedTo}
+use Rattle.station.proofs.SourceLaws.{agree-tells}
 
-never : {A : Type 0} → false ≡ true → A
+pub never : {A : Type 0} → false ≡ true → A
 never e = let z : _≡_ {A = ℕ} 0 1 = cc in absurd (omega arith)
 
 -- ---- a channel's messages among the fed ones
@@ -75,30 +72,18 @@ module _ (g : Settings) (M N : List (List ℕ)) where
   missing : (m : ℕ) → history (g .unit) 0 M ≡ history (g .unit) 0 N → heard g M .missing m ≡ heard g N .missing m
   missing m e = ap (λ (H : List Entry). absents (λ j. isPresent (remembered H j)) m 179) e
 
-  module _ (m : ℕ) where
-    pub pressure-fed : fed pressureChannels M ≡ fed pressureChannels N → (r : PressureAnswer) → TellsPressure (heard g M) m r → TellsPressure (heard g N) m r
-    pressure-fed e =
-        tells-pressure (heard g M) (heard g N) (itself _) m
-        (kept m 0 (same-history pressureChannels 0 refl (g .unit) M N e)) (kept m 1 (same-history pressureChannels 1 refl (g .unit) M N e))
-
-    pub tendency-fed : fed pressureChannels M ≡ fed pressureChannels N → (r : TendencyAnswer) → TellsTendency (heard g M) m r → TellsTendency (heard g N) m r
-    tendency-fed e =
-        let p = same-history pressureChannels 0 refl (g .unit) M N e in
-        let t = same-history pressureChannels 1 refl (g .unit) M N e in
-        tells-tendency (heard g M) (heard g N) (itself _) m (kept m 0 p) (kept m 1 t) (kept (m - 180) 0 p) (kept (m - 180) 1 t) (missing m p)
-
-    pub wind-fed : fed windChannels M ≡ fed windChannels N → (r : WindAnswer) → TellsWind (heard g M) m r → TellsWind (heard g N) m r
-    wind-fed e =
-        tells-wind (heard g M) (heard g N) m
-        (kept m 2 (same-history windChannels 2 refl (g .unit) M N e)) (kept m 3 (same-history windChannels 3 refl (g .unit) M N e))
-
-    pub humidity-fed : fed humidityChannels M ≡ fed humidityChannels N → (r : HumidityAnswer) → TellsHumidity [] (heard g M) m r → TellsHumidity [] (heard g N) m r
-    humidity-fed e =
-        tells-humidity (heard g M) (heard g N) (itself _) m
-        (kept m 0 (same-history humidityChannels 0 refl (g .unit) M N e))
-        (kept m 4 (same-history humidityChannels 4 refl (g .unit) M N e))
-        (kept m 5 (same-history humidityChannels 5 refl (g .unit) M N e))
-        refl [] [] refl
+  -- Message lists whose fed messages are the same give the same answer.
+  pub same-fed : (q : Asked) (m : ℕ) → fedTo q M ≡ fedTo q N → (r : Reply q) → Tells q (heard g M) m r → Tells q (heard g N) m r
+  same-fed q m e =
+      let same : (c : ℕ) → isIn (question q .channels) c ≡ true → history (g .unit) c M ≡ history (g .unit) c N =
+          λ c i. same-history (question q .channels) c i (g .unit) M N e in
+      agree-tells q (heard g M) (heard g N) m
+      (record {
+        barometer = itself _;
+        psychrometer = refl;
+        kept = λ c j r. kept j c (same c (and-true (isIn (question q .channels) c) (isIn (question q .minutes m) j) r .0));
+        missing = λ i. missing m (same 0 i);
+      })
 
 -- The fed messages of the fed messages are those.
 pub fed-again : (cs : List ℕ) (M : List (List ℕ)) → fed cs M ≡ fed cs (fed cs M)

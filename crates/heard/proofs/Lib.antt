@@ -2,3 +2,4 @@ pub mod StoreLaws
 pub mod FedLaws
 pub mod ReplacedLaws
 pub mod RefusalsInOrder
+pub mod SettingsAlike

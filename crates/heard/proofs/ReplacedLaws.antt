@@ -1,13 +1,13 @@
 -- Demand 3, replaced values: where messages are exchanged for others of the same channel and minute, a channel's history keeps its
 -- minutes, and its values wherever they are read. So the answer stays. Message by message. Assumes nothing.
 use mathlib.Core.Path.{_≡_, refl, sym, ap, _∙_, subst}
-use mathlib.Core.Bool.{Bool, true, false, _&&_, _||_, cond}
+use mathlib.Core.Bool.{Bool, true, false, _&&_, cond}
 use mathlib.Core.List.{List, [], _∷_}
 use mathlib.Core.Logic.{_⊎_, inl, inr}
-use Prim.Native.Nat.{ℕ, _+_, _-_}
+use Prim.Native.Nat.{ℕ, _+_}
 use native.Mathlib.Omega.{arith}
 use lib.Dec.{eqb, leb}
-use borrow.Author.Tests.{eqb-true, eq-eqb}
+use borrow.Author.Tests.{eqb-true}
 use Rattle.number.specs.Refusal.{Answer, refused, given}
 use Rattle.number.proofs.Sizes.{and-true}
 use Rattle.quantity.specs.declared.BarometerUnit.{BarometerUnit}
@@ -18,17 +18,10 @@ use Rattle.window.proofs.AbsentLaws.{absents-alike}
 use Rattle.cell.specs.Cells.{Recall, absent, recalled}
 use Rattle.store.specs.History.{nextOf, grown, history, lookup, remembered, isPresent}
 use Rattle.station.specs.Source.{heard}
-use Rattle.station.specs.Told.{TellsPressure, TellsTendency, TellsWind, TellsHumidity}
-use Rattle.heard.specs.Feeds.{pressureChannels, windChannels, humidityChannels, readsAt, readsTendency, Exchanged, Replaced}
-use Rattle.station.specs.declared.PressureAnswer.{PressureAnswer}
-use Rattle.station.specs.declared.TendencyAnswer.{TendencyAnswer}
-use Rattle.station.specs.declared.WindAnswer.{WindAnswer}
-use Rattle.station.specs.declared.HumidityAnswer.{HumidityAnswer}
-use Rattle.heard.proofs.SourceLaws.{tells-pressure, tells-tendency, tells-wind, tells-humidity}
-use Rattle.heard.proofs.FedLaws.{itself}
-
-never : {A : Type 0} → false ≡ true → A
-never e = let z : _≡_ {A = ℕ} 0 1 = cc in absurd (omega arith)
+use Rattle.station.specs.Questions.{Asked, Reply, reads, Tells}
+use Rattle.heard.specs.Feeds.{Exchanged, Replaced}
+use Rattle.station.proofs.SourceLaws.{agree-tells}
+use Rattle.heard.proofs.FedLaws.{never, itself}
 
 -- ---- one channel's history
 
@@ -115,38 +108,14 @@ module _ (reads : ℕ → ℕ → Bool) (c : ℕ) where
 
 -- ---- the answers
 
-same-minute : (m : ℕ) → eqb m m ≡ true
-same-minute m = eq-eqb m m refl
-
-either : (b : Bool) → (b || true) ≡ true
-either true = refl
-either false = refl
-
-module _ (g : Settings) (M N : List (List ℕ)) (m : ℕ) where
-  pub pressure-replaced : Replaced (g .unit) (readsAt pressureChannels m) M N → (r : PressureAnswer) → TellsPressure (heard g M) m r → TellsPressure (heard g N) m r
-  pressure-replaced w =
-      let reads = readsAt pressureChannels m in
-      tells-pressure (heard g M) (heard g N) (itself _) m (value-stays reads 0 (g .unit) M N w m (same-minute m)) (value-stays reads 1 (g .unit) M N w m (same-minute m))
-
-  pub wind-replaced : Replaced (g .unit) (readsAt windChannels m) M N → (r : WindAnswer) → TellsWind (heard g M) m r → TellsWind (heard g N) m r
-  wind-replaced w =
-      let reads = readsAt windChannels m in
-      tells-wind (heard g M) (heard g N) m (value-stays reads 2 (g .unit) M N w m (same-minute m)) (value-stays reads 3 (g .unit) M N w m (same-minute m))
-
-  pub humidity-replaced : Replaced (g .unit) (readsAt humidityChannels m) M N → (r : HumidityAnswer) → TellsHumidity [] (heard g M) m r → TellsHumidity [] (heard g N) m r
-  humidity-replaced w =
-      let reads = readsAt humidityChannels m in
-      tells-humidity (heard g M) (heard g N) (itself _) m
-      (value-stays reads 0 (g .unit) M N w m (same-minute m)) (value-stays reads 4 (g .unit) M N w m (same-minute m)) (value-stays reads 5 (g .unit) M N w m (same-minute m))
-      refl [] [] refl
-
-  -- A tendency reads two minutes, and of the minutes between whether they are there.
-  pub tendency-replaced : Replaced (g .unit) (readsTendency m) M N → (r : TendencyAnswer) → TellsTendency (heard g M) m r → TellsTendency (heard g N) m r
-  tendency-replaced w =
-      let reads = readsTendency m in
-      let now : (eqb m m || eqb m (m - 180)) ≡ true = rw (same-minute m) in
-      let before : (eqb (m - 180) m || eqb (m - 180) (m - 180)) ≡ true = rw (same-minute (m - 180)) (either (eqb (m - 180) m)) in
-      tells-tendency (heard g M) (heard g N) (itself _) m
-      (value-stays reads 0 (g .unit) M N w m now) (value-stays reads 1 (g .unit) M N w m now)
-      (value-stays reads 0 (g .unit) M N w (m - 180) before) (value-stays reads 1 (g .unit) M N w (m - 180) before)
-      (absents-alike _ _ m 179 (λ j a b. present-stays reads 0 (g .unit) M N w j))
+-- Other values at minutes that a question does not read leave its answer; whether a minute is there does not change.
+pub same-replaced : (g : Settings) (M N : List (List ℕ)) (q : Asked) (m : ℕ) → Replaced (g .unit) (reads q m) M N
+    → (r : Reply q) → Tells q (heard g M) m r → Tells q (heard g N) m r
+same-replaced g M N q m w =
+    agree-tells q (heard g M) (heard g N) m
+    (record {
+      barometer = itself _;
+      psychrometer = refl;
+      kept = λ c j r. value-stays (reads q m) c (g .unit) M N w j r;
+      missing = λ i. absents-alike _ _ m 179 (λ j a b. present-stays (reads q m) 0 (g .unit) M N w j);
+    })

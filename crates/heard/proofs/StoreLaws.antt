@@ -1,7 +1,7 @@
 -- A store that was opened and then heard messages: its settings stay as they were opened with, and its block answers every
 -- question as the messages heard do. By what the block remembers of them. Assumes nothing.
-use mathlib.Core.Path.{_≡_, refl, sym, ap, _∙_}
-use mathlib.Core.Bool.{Bool, true, false, not, _&&_, cond}
+use mathlib.Core.Path.{_≡_, refl, sym, ap, subst, _∙_}
+use mathlib.Core.Bool.{Bool, true, false, not, _&&_, _||_, cond}
 use mathlib.Core.List.{List, [], _∷_, _++_}
 use Prim.Native.Nat.{ℕ, _+_, _-_, _<_, min}
 use native.Mathlib.Omega.{arith}
@@ -9,7 +9,7 @@ use lib.Dec.{eqb, ltb, lit<}
 use lib.IntN.{ℤ, pos}
 use lib.ListN.{getD, take, length}
 use lib.Seq.{getD-take}
-use borrow.Author.Tests.{ltb-true, not-false}
+use borrow.Author.Tests.{ltb-true, eqb-true, not-false}
 use Rattle.number.specs.Refusal.{Numbered, Test, answer, given}
 use Rattle.number.proofs.Sizes.{and-true}
 use Rattle.quantity.specs.Limits.{inside, recordedPressure}
@@ -29,18 +29,41 @@ use Rattle.store.specs.History.{history, remembered, isPresent, Remembers, stor
 use Rattle.store.proofs.HistoryLaws.{store-remembers}
 use Rattle.store.proofs.StoreTheorems.{settings-stay-heard, absent-count}
 use Rattle.block.proofs.SettingsLaws.{settings-back, others}
-use Rattle.pressure.specs.Pressure.{Barometer, barometerIn, barometerOf, stationPressure}
-use Rattle.pressure.proofs.PressureTheorems.{Alike, alike-station, opened-alike, station-recorded}
+use Rattle.pressure.specs.Pressure.{Barometer, barometerIn, barometerOf}
+use Rattle.pressure.proofs.OrderLaws.{never}
+use Rattle.pressure.proofs.PressureTheorems.{Alike, opened-alike, station-recorded}
 use Rattle.station.specs.Source.{Source, heard, held, first}
-use Rattle.station.specs.Questions.{Answers, test, tooLate, missingAt, outsideAt, stationAt, HumidityRule, humidityTests, foreign}
-use Rattle.station.specs.Told.{humidityAs, TellsPressure, TellsTendency, TellsWind, TellsHumidity}
-use Rattle.station.specs.declared.PressureAnswer.{PressureAnswer}
-use Rattle.station.specs.declared.TendencyAnswer.{TendencyAnswer}
-use Rattle.station.specs.declared.WindAnswer.{WindAnswer}
+use Rattle.station.specs.Questions.{Asked, question, Reply, isIn, Tells, TellsOf, tooLate, missingAt, outsideAt, stationAt, HumidityRule, humidityTests, foreign}
+use Rattle.station.specs.Questions as asked
+use Rattle.station.specs.Told.{humidityAs}
 use Rattle.station.specs.declared.HumidityAnswer.{HumidityAnswer}
 use Rattle.station.proofs.AnswerLaws.{carry, leave-out, lets-pass}
 use Rattle.station.proofs.KeptLaws.{first-inside}
-use Rattle.heard.proofs.SourceLaws.{tells-pressure, tells-tendency, tells-wind, tells-humidity}
+use Rattle.station.proofs.SourceLaws.{Agree, agree-tells, station-same}
+
+-- every question is fed by channels that there are
+allLow : List ℕ → Bool
+allLow [] = true
+allLow (d ∷ cs) = ltb d CHANNELS && allLow cs
+
+low-in : (cs : List ℕ) (c : ℕ) → allLow cs ≡ true → isIn cs c ≡ true → c < CHANNELS
+unfolding allLow
+low-in [] c l i = absurd (never i)
+low-in (d ∷ cs) c l i = go (eqb c d) refl i (low-in cs c)
+  where
+    both : (ltb d CHANNELS ≡ true) × (allLow cs ≡ true)
+    both = and-true (ltb d CHANNELS) (allLow cs) l
+
+    go : (b : Bool) → eqb c d ≡ b → (b || isIn cs c) ≡ true → (allLow cs ≡ true → isIn cs c ≡ true → c < CHANNELS) → c < CHANNELS
+    go true h i rest = subst (λ (x : ℕ). x < CHANNELS) (sym (eqb-true c d h)) (ltb-true d CHANNELS (both .0))
+    go false h i rest = rest (both .1) i
+
+channel-low : (q : Asked) (c : ℕ) → isIn (question q .channels) c ≡ true → c < CHANNELS
+unfolding allLow
+channel-low asked.pressure c i = low-in (question asked.pressure .channels) c refl i
+channel-low asked.tendency c i = low-in (question asked.tendency .channels) c refl i
+channel-low asked.wind c i = low-in (question asked.wind .channels) c refl i
+channel-low asked.humidity c i = low-in (question asked.humidity .channels) c refl i
 
 -- ---- settings
 
@@ -126,39 +149,33 @@ module _ (g : Settings) (good : checked g ≡ given tt) where
     -- ---- the block answers as the messages heard do
 
     module _ (m : ℕ) where
-      pub pressure-by-messages : (r : PressureAnswer) → TellsPressure (held (store-of g M)) m r → TellsPressure (heard g M) m r
-      pressure-by-messages = tells-pressure (held (store-of g M)) (heard g M) barometer-is m (kept-is m 0 (lit< tt)) (kept-is m 1 (lit< tt))
-
-      pub tendency-by-messages : (r : TendencyAnswer) → TellsTendency (held (store-of g M)) m r → TellsTendency (heard g M) m r
-      tendency-by-messages =
-          tells-tendency (held (store-of g M)) (heard g M) barometer-is m
-          (kept-is m 0 (lit< tt)) (kept-is m 1 (lit< tt)) (kept-is (m - 180) 0 (lit< tt)) (kept-is (m - 180) 1 (lit< tt)) (missing-is m)
-
-      pub wind-by-messages : (r : WindAnswer) → TellsWind (held (store-of g M)) m r → TellsWind (heard g M) m r
-      wind-by-messages = tells-wind (held (store-of g M)) (heard g M) m (kept-is m 2 (lit< tt)) (kept-is m 3 (lit< tt))
-
-      foreign-same : foreign (held (store-of g M)) m ≡ foreign (heard g M) m
-      foreign-same =
-          let S = held (store-of g M) in
-          let T = heard g M in
-          let p : stationAt S m ≡ stationAt T m =
-          ap (λ (x : Recall). stationPressure (S .barometer) (first x)) (kept-is m 0 (lit< tt))
-          ∙ alike-station (S .barometer) (T .barometer) barometer-is (first (T .recall 0 m)) in
-          rw (p, psychrometer-is)
+      agrees : (q : Asked) → Agree q (held (store-of g M)) (heard g M) m
+      agrees q =
+          record {
+            barometer = barometer-is;
+            psychrometer = psychrometer-is;
+            kept = λ c j r. kept-is j c (channel-low q c (and-true (isIn (question q .channels) c) (isIn (question q .minutes m) j) r .0));
+            missing = λ i. missing-is m;
+          }
 
       -- the test that document 01 does not have never refuses
-      without-foreign : (r : HumidityAnswer) → TellsHumidity (foreign (heard g M) m) (heard g M) m r → TellsHumidity [] (heard g M) m r
+      without-foreign : (r : HumidityAnswer) → TellsOf asked.humidity (store-of g M) m r → Tells asked.humidity (held (store-of g M)) m r
       without-foreign r w table tabled =
-          let S = heard g M in
+          let S = held (store-of g M) in
+          let same : not (inside recordedPressure (stationAt S m) && inside settings.psychrometer (S .psychrometer))
+              ≡ not (inside recordedPressure (stationAt (heard g M) m) && inside settings.psychrometer (g .psychrometer .0 .v)) =
+              rw (station-same S (heard g M) barometer-is m (kept-is m 0 (lit< tt)), psychrometer-is) in
           carry (humidityTests (foreign S m) table S m) (humidityTests [] table S m) (HumidityRule S m) (HumidityRule S m) (humidityAs r)
           (leave-out (tooLate m ∷ missingAt S m 0 ∷ missingAt S m 4 ∷ missingAt S m 5 ∷ outsideAt S m ∷ []) _ _
-          (λ e. never-foreign m (not-false _ (lets-pass (missingAt S m 0) _ (lets-pass (tooLate m) _ e .1) .0))))
+          (λ e. same ∙ never-foreign m (ap isPresent (sym (kept-is m 0 (lit< tt))) ∙ not-false _ (lets-pass (missingAt S m 0) _ (lets-pass (tooLate m) _ e .1) .0))))
           (λ h x. x)
           (w table tabled)
 
-      pub humidity-by-messages : (r : HumidityAnswer) → TellsHumidity (foreign (held (store-of g M)) m) (held (store-of g M)) m r → TellsHumidity [] (heard g M) m r
-      humidity-by-messages r w =
-          without-foreign r
-          (tells-humidity (held (store-of g M)) (heard g M) barometer-is m
-          (kept-is m 0 (lit< tt)) (kept-is m 4 (lit< tt)) (kept-is m 5 (lit< tt)) psychrometer-is
-          (foreign (held (store-of g M)) m) (foreign (heard g M) m) foreign-same r w)
+      as-told : (q : Asked) (r : Reply q) → TellsOf q (store-of g M) m r → Tells q (held (store-of g M)) m r
+      as-told asked.pressure r w = w
+      as-told asked.tendency r w = w
+      as-told asked.wind r w = w
+      as-told asked.humidity r w = without-foreign r w
+
+      pub by-messages : (q : Asked) (r : Reply q) → TellsOf q (store-of g M) m r → Tells q (heard g M) m r
+      by-messages q r w = agree-tells q (held (store-of g M)) (heard g M) m (agrees q) r (as-told q r w)

@@ -1,27 +1,33 @@
--- What feeds an answer (document 01, "Which channels feed what"), and what it means that messages are alike for it.
+-- What it means for an answer that settings and messages are alike, and the reasons by which a message is refused.
 use mathlib.Core.Path.{_≡_}
-use mathlib.Core.Bool.{Bool, true, false, not, _&&_, _||_, cond}
+use mathlib.Core.Bool.{Bool, false, not, _||_, cond}
 use mathlib.Core.List.{List, [], _∷_, _++_}
 use mathlib.Core.Logic.{_⊎_}
-use Prim.Native.Nat.{ℕ, _-_}
-use lib.Dec.{eqb, ltb, leb}
+use Prim.Native.Nat.{ℕ, _<_}
+use lib.Dec.{leb}
 use Rattle.number.specs.Refusal.{Test, given}
 use Rattle.quantity.specs.declared.BarometerUnit.{BarometerUnit}
 use Rattle.wire.specs.Bytes.{minute}
 use Rattle.wire.specs.Decode.{message}
 use Rattle.message.specs.Receive.{Entry, entry, received, tests}
+use Rattle.settings.specs.Settings.{pointAt}
 use Rattle.settings.specs.declared.Settings.{Settings}
 use Rattle.store.specs.History.{nextOf, history, belongs}
+use Rattle.station.specs.Questions.{Asked, question}
 
--- "Pressure: 0, 1. Tendency: 0, 1 .. Wind: 2, 3. Humidity: 0, 4, 5."
-abbrev pub pressureChannels : List ℕ
-pressureChannels = 0 ∷ 1 ∷ []
+-- ---- "the same settings"
 
-abbrev pub windChannels : List ℕ
-windChannels = 2 ∷ 3 ∷ []
+-- A certificate is its points: what stands behind their count is none of it.
+pub record SameSettings (g h : Settings) : Type 0 where
+  pub unit : g .unit ≡ h .unit
+  pub height : g .height .0 .v ≡ h .height .0 .v
+  pub difference : g .difference .0 .v ≡ h .difference .0 .v
+  pub coefficient : g .coefficient .0 .v ≡ h .coefficient .0 .v
+  pub psychrometer : g .psychrometer .0 .v ≡ h .psychrometer .0 .v
+  pub count : g .count ≡ h .count
+  pub point : (i : ℕ) → i < g .count → pointAt (g .points) i ≡ pointAt (h .points) i
 
-abbrev pub humidityChannels : List ℕ
-humidityChannels = 0 ∷ 4 ∷ 5 ∷ []
+-- ---- "the messages of the channels that feed an answer"
 
 -- "Messages of wrong length or with a channel above 5 belong to no channel."
 unfoldable pub feeds : List ℕ → List ℕ → Bool
@@ -33,18 +39,11 @@ unfoldable pub fed : List ℕ → List (List ℕ) → List (List ℕ)
 fed cs [] = []
 fed cs (m ∷ M) = cond (feeds cs m) (m ∷ fed cs M) (fed cs M)
 
--- ---- minutes that an answer reads
+-- The messages that feed a question's answer.
+abbrev pub fedTo : Asked → List (List ℕ) → List (List ℕ)
+fedTo q M = fed (question q .channels) M
 
-abbrev pub isIn : List ℕ → ℕ → Bool
-isIn [] c = false
-isIn (d ∷ cs) c = eqb c d || isIn cs c
-
--- the minute asked for, of the channels that feed the answer; a tendency reads the minute three hours before too
-abbrev pub readsAt : List ℕ → ℕ → ℕ → ℕ → Bool
-readsAt cs m c j = isIn cs c && eqb j m
-
-abbrev pub readsTendency : ℕ → ℕ → ℕ → Bool
-readsTendency m c j = isIn pressureChannels c && (eqb j m || eqb j (m - 180))
+-- ---- messages with other values
 
 -- "Replacing fed values by other acceptable ones at minutes the answer doesn't read": two messages of the same channel and minute,
 -- neither refused by 1 to 7.
