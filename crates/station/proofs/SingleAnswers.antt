@@ -177,13 +177,13 @@ one-of : (q : Asked) (s : List ℕ) (m : ℕ) (r r′ : Reply q) → TellsOf q s
 one-of q s m = one-reply q [] (question q .foreign (held s) m) (held s) m
 
 pub single-pressure : Single pressure.Post
-single-pressure κs a r r′ s s′ = one-of asked.pressure (now (a .0)) (a .1 .0) r r′
+single-pressure κs a r r′ s s′ p q = one-of asked.pressure (now (a .0)) (a .1 .0) r r′ (p .0) (q .0)
 
 pub single-tendency : Single tendency.Post
-single-tendency κs a r r′ s s′ = one-of asked.tendency (now (a .0)) (a .1 .0) r r′
+single-tendency κs a r r′ s s′ p q = one-of asked.tendency (now (a .0)) (a .1 .0) r r′ (p .0) (q .0)
 
 pub single-wind-answer : Single wind.Post
-single-wind-answer κs a r r′ s s′ = one-of asked.wind (now (a .0)) (a .1 .0) r r′
+single-wind-answer κs a r r′ s s′ p q = one-of asked.wind (now (a .0)) (a .1 .0) r r′ (p .0) (q .0)
 
 pub single-humidity : Single humidity.Post
-single-humidity κs a r r′ s s′ = one-of asked.humidity (now (a .0)) (a .1 .0) r r′
+single-humidity κs a r r′ s s′ p q = one-of asked.humidity (now (a .0)) (a .1 .0) r r′ (p .0) (q .0)

@@ -174,7 +174,7 @@ fn sea_level_at(store: &Store, minute: u32) -> AtMinute
 
 // The pressure at sea level.
 pub fn pressure(store: &Store, minute: u32) -> PressureAnswer
-    ensures { λ r. ⌜ TellsOf asked.pressure (now (store .entry)) minute r ⌝ }
+    ensures { λ r. ⌜ TellsOf asked.pressure (now (store .entry)) minute r × (now (store .exit) ≡ now (store .entry)) ⌝ }
 {
     if !Minute::holds(minute) {
         return PressureAnswer::Refused(QuestionRefusal::MinuteTooLate);
@@ -192,7 +192,7 @@ pub fn pressure(store: &Store, minute: u32) -> PressureAnswer
 
 // Its change since three hours before, and how many barometer minutes between are absent.
 pub fn tendency(store: &Store, minute: u32) -> TendencyAnswer
-    ensures { λ r. ⌜ TellsOf asked.tendency (now (store .entry)) minute r ⌝ }
+    ensures { λ r. ⌜ TellsOf asked.tendency (now (store .entry)) minute r × (now (store .exit) ≡ now (store .entry)) ⌝ }
 {
     if !Minute::holds(minute) {
         return TendencyAnswer::Refused(QuestionRefusal::MinuteTooLate);
@@ -251,7 +251,7 @@ fn blowing(course: Number, ship: Number, apparent: Number, from_bow: Number) -> 
 
 // The true wind.
 pub fn wind(store: &Store, minute: u32) -> WindAnswer
-    ensures { λ r. ⌜ TellsOf asked.wind (now (store .entry)) minute r ⌝ }
+    ensures { λ r. ⌜ TellsOf asked.wind (now (store .entry)) minute r × (now (store .exit) ≡ now (store .entry)) ⌝ }
 {
     if !Minute::holds(minute) {
         return WindAnswer::Refused(QuestionRefusal::MinuteTooLate);
@@ -296,7 +296,7 @@ fn moist(store: &Store, minute: u32, reading: Number, dry: Number, wet: Number) 
 
 // Vapour pressure, saturation, deficit, relative humidity and dew point.
 pub fn humidity(store: &Store, minute: u32) -> HumidityAnswer
-    ensures { λ r. ⌜ TellsOf asked.humidity (now (store .entry)) minute r ⌝ }
+    ensures { λ r. ⌜ TellsOf asked.humidity (now (store .entry)) minute r × (now (store .exit) ≡ now (store .entry)) ⌝ }
 {
     if !Minute::holds(minute) {
         return HumidityAnswer::Refused(QuestionRefusal::MinuteTooLate);

@@ -1,5 +1,5 @@
 -- `humidity` meets its contract: the minute, three readings in turn, then the work. Assumes nothing.
-use mathlib.Core.Path.{_≡_, sym, ap, subst}
+use mathlib.Core.Path.{_≡_, refl, sym, ap, subst}
 use mathlib.Core.Bool.{not}
 use Prim.Native.Nat.{ℕ}
 use denote.Ref.{now}
@@ -46,7 +46,7 @@ holds-requires : tie.Need-holds-requires
 holds-requires c κs = search needs
 
 returns : tie.Need-returns
-returns c = λ table tabled. stop _ _ _ (late (c .before .before .args .minute) _ (c .before .holds .ensures) (not-true _ (c .if1 .taken)))
+returns c = (λ table tabled. stop _ _ _ (late (c .before .before .args .minute) _ (c .before .holds .ensures) (not-true _ (c .if1 .taken))), refl)
 
 read-at-requires : tie.Need-read-at-requires
 read-at-requires c κs = search needs
@@ -94,34 +94,37 @@ moist-requires c κs =
 
 returns-2 : tie.Need-returns-2
 returns-2 c =
-    λ table tabled.
+    (λ table tabled.
     let at = c .before .before in
     pass _ _ _ _ (timely (at .before .before .before .args .minute) _ (at .before .before .holds .ensures) (not-false _ (at .before .if1 .left)))
-    (stop _ _ _ (ap not (pressure-is at NotThere (c .enum-told .given .1))))
+    (stop _ _ _ (ap not (pressure-is at NotThere (c .enum-told .given .1)))),
+    refl)
 
 returns-3 : tie.Need-returns-3
 returns-3 c =
-    λ table tabled.
+    (λ table tabled.
     let two = c .before .before in
     let at = two .before .before .before .before in
     pass _ _ _ _ (timely (at .before .before .before .args .minute) _ (at .before .before .holds .ensures) (not-false _ (at .before .if1 .left)))
     (pass _ _ _ _ (ap not (pressure-there two .0))
-    (stop _ _ _ (ap not (dry-is two NotThere (c .enum-told2 .given .1)))))
+    (stop _ _ _ (ap not (dry-is two NotThere (c .enum-told2 .given .1))))),
+    refl)
 
 returns-4 : tie.Need-returns-4
 returns-4 c =
-    λ table tabled.
+    (λ table tabled.
     let three = c .before .before in
     let two = three .before .before .before .before in
     let at = two .before .before .before .before in
     pass _ _ _ _ (timely (at .before .before .before .args .minute) _ (at .before .before .holds .ensures) (not-false _ (at .before .if1 .left)))
     (pass _ _ _ _ (ap not (pressure-there two .0))
     (pass _ _ _ _ (ap not (dry-there three .0))
-    (stop _ _ _ (ap not (wet-is three NotThere (c .enum-told3 .given .1))))))
+    (stop _ _ _ (ap not (wet-is three NotThere (c .enum-told3 .given .1)))))),
+    refl)
 
 returns-5 : tie.Need-returns-5
 returns-5 c =
-    λ table tabled.
+    (λ table tabled.
     let three = c .before .before .before .before in
     let two = three .before .before .before .before in
     let at = two .before .before .before .before in
@@ -134,7 +137,8 @@ returns-5 c =
     (pass _ _ _ _ (ap not (x .0))
     (pass _ _ _ _ (ap not (y .0))
     (pass _ _ _ _ (ap not (z .0))
-    (moist-of (held (now (a .store))) (a .minute) (c .moist .result) (x .1) (y .1) (z .1) (c .moist .ensures) table tabled))))
+    (moist-of (held (now (a .store))) (a .minute) (c .moist .result) (x .1) (y .1) (z .1) (c .moist .ensures) table tabled)))),
+    refl)
 
 pub humidity-spec : {M : Type 1} → statement M
 humidity-spec =

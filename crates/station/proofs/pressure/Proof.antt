@@ -1,5 +1,5 @@
 -- `pressure` meets its contract: the minute, then sea level pressure at it. Assumes nothing.
-use mathlib.Core.Path.{_≡_, subst}
+use mathlib.Core.Path.{_≡_, refl, subst}
 use mathlib.Core.List.{List}
 use denote.Ref.{now}
 use borrow.Author.Tests.{not-true, not-false}
@@ -24,7 +24,7 @@ holds-requires : tie.Need-holds-requires
 holds-requires c κs = search needs
 
 returns : tie.Need-returns
-returns c = λ table tabled. stop _ _ _ (late (c .before .before .args .minute) _ (c .before .holds .ensures) (not-true _ (c .if1 .taken)))
+returns c = (λ table tabled. stop _ _ _ (late (c .before .before .args .minute) _ (c .before .holds .ensures) (not-true _ (c .if1 .taken))), refl)
 
 sea-level-at-requires : tie.Need-sea-level-at-requires
 sea-level-at-requires c κs = search needs
@@ -40,21 +40,24 @@ enum-known-p c = search needs
 
 returns-2 : tie.Need-returns-2
 returns-2 c =
-    λ table tabled.
+    (λ table tabled.
     let at = c .before .before .before in
-    pass _ _ _ _ (timely (at .before .before .before .args .minute) _ (at .before .before .holds .ensures) (not-false _ (at .before .if1 .left))) (found at (NotKept (c .before .c .given .0 .0)) (c .before .c .given .1))
+    pass _ _ _ _ (timely (at .before .before .before .args .minute) _ (at .before .before .holds .ensures) (not-false _ (at .before .if1 .left))) (found at (NotKept (c .before .c .given .0 .0)) (c .before .c .given .1)),
+    refl)
 
 returns-3 : tie.Need-returns-3
 returns-3 c =
-    λ table tabled.
+    (λ table tabled.
     let at = c .before .before in
-    pass _ _ _ _ (timely (at .before .before .before .args .minute) _ (at .before .before .holds .ensures) (not-false _ (at .before .if1 .left))) (found at Outside (c .enum-told .given .1))
+    pass _ _ _ _ (timely (at .before .before .before .args .minute) _ (at .before .before .holds .ensures) (not-false _ (at .before .if1 .left))) (found at Outside (c .enum-told .given .1)),
+    refl)
 
 returns-4 : tie.Need-returns-4
 returns-4 c =
-    λ table tabled.
+    (λ table tabled.
     let at = c .before .before .before in
-    pass _ _ _ _ (timely (at .before .before .before .args .minute) _ (at .before .before .holds .ensures) (not-false _ (at .before .if1 .left))) (found at (SeaLevel (c .before .p .given .0 .0)) (c .before .p .given .1))
+    pass _ _ _ _ (timely (at .before .before .before .args .minute) _ (at .before .before .holds .ensures) (not-false _ (at .before .if1 .left))) (found at (SeaLevel (c .before .p .given .0 .0)) (c .before .p .given .1)),
+    refl)
 
 pub pressure-spec : {M : Type 1} → statement M
 pressure-spec =

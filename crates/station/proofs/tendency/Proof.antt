@@ -1,5 +1,5 @@
 -- `tendency` meets its contract: the minute, then sea level pressure at both minutes, test by test. Assumes nothing.
-use mathlib.Core.Path.{_≡_, sym, ap, subst, _∙_}
+use mathlib.Core.Path.{_≡_, refl, sym, ap, subst, _∙_}
 use mathlib.Core.Bool.{true, false}
 use mathlib.Core.List.{List, _∷_}
 use Prim.Native.Nat.{ℕ, _-_, _≤_}
@@ -105,16 +105,18 @@ holds-requires c κs = search needs
 
 returns : tie.Need-returns
 returns c =
-    λ table tabled.
+    (λ table tabled.
     let a = c .before .before .args in
-    stop _ _ _ (late (a .minute) _ (c .before .holds .ensures) (not-true _ (c .if1 .taken)))
+    stop _ _ _ (late (a .minute) _ (c .before .holds .ensures) (not-true _ (c .if1 .taken))),
+    refl)
 
 returns-2 : tie.Need-returns-2
 returns-2 c =
-    λ table tabled.
+    (λ table tabled.
     let a = c .before .before .before .args in
     pass _ _ _ _ (timely (a .minute) _ (c .before .before .holds .ensures) (not-false _ (c .before .if1 .left)))
-    (stop _ _ _ (lt-ltb (a .minute) 180 (c .if2 .taken)))
+    (stop _ _ _ (lt-ltb (a .minute) 180 (c .if2 .taken))),
+    refl)
 
 sea-level-at-requires : tie.Need-sea-level-at-requires
 sea-level-at-requires c κs = search needs
@@ -128,11 +130,12 @@ enum-known-earlier c = search needs
 returns-3 : tie.Need-returns-3
 unfolding source minute
 returns-3 c =
-    λ table tabled.
+    (λ table tabled.
     let at = c .before .before .before in
     let p = c .before .earlier .given in
     front (at .before .before) _ _
-    (at-missing (S at) (m at - 180) (TendencyRule (S at) (m at)) _ _ (subst (TellsAt (S at) (m at - 180)) (p .1) (earlier-is at)))
+    (at-missing (S at) (m at - 180) (TendencyRule (S at) (m at)) _ _ (subst (TellsAt (S at) (m at - 180)) (p .1) (earlier-is at))),
+    refl)
 
 enum-known-later : tie.Need-enum-known-later
 enum-known-later c = search needs
@@ -140,13 +143,14 @@ enum-known-later c = search needs
 returns-4 : tie.Need-returns-4
 unfolding source minute
 returns-4 c =
-    λ table tabled.
+    (λ table tabled.
     let at = c .before .before .before .before in
     let q = c .before .later .given in
     let there = at-there (S at) (m at - 180) (at .before .sea-level-at .result) (c .before .before .before .match .keys2) (earlier-is at) in
     front (at .before .before) _ _
     (pass-there (S at) (m at - 180) _ _ _ there
-    (at-missing (S at) (m at) (TendencyRule (S at) (m at)) _ _ (subst (TellsAt (S at) (m at)) (q .1) (later-is at))))
+    (at-missing (S at) (m at) (TendencyRule (S at) (m at)) _ _ (subst (TellsAt (S at) (m at)) (q .1) (later-is at)))),
+    refl)
 
 enum-known-earlier-2 : tie.Need-enum-known-earlier-2
 enum-known-earlier-2 c = search needs
@@ -154,10 +158,11 @@ enum-known-earlier-2 c = search needs
 returns-5 : tie.Need-returns-5
 unfolding source minute
 returns-5 c =
-    λ table tabled.
+    (λ table tabled.
     let both = at (c .before) in
     certified (c .before) _ _
-    (stop _ _ _ (at-no-pressure (S both) (m both - 180) (both .before .sea-level-at .result) (c .before .before .match .keys2) (c .match3 .keys2) (earlier-is both)))
+    (stop _ _ _ (at-no-pressure (S both) (m both - 180) (both .before .sea-level-at .result) (c .before .before .match .keys2) (c .match3 .keys2) (earlier-is both))),
+    refl)
 
 enum-known-later-2 : tie.Need-enum-known-later-2
 enum-known-later-2 c = search needs
@@ -165,12 +170,13 @@ enum-known-later-2 c = search needs
 returns-6 : tie.Need-returns-6
 unfolding source minute
 returns-6 c =
-    λ table tabled.
+    (λ table tabled.
     let there = found (c .before) in
     let both = at there in
     certified there _ _
     (pass _ _ _ _ (earlier-given (c .before) .1)
-    (stop _ _ _ (at-no-pressure (S both) (m both) (both .sea-level-at2 .result) (there .match2 .keys2) (c .match4 .keys2) (later-is both))))
+    (stop _ _ _ (at-no-pressure (S both) (m both) (both .sea-level-at2 .result) (there .match2 .keys2) (c .match4 .keys2) (later-is both)))),
+    refl)
 
 minus-requires : tie.Need-minus-requires
 unfolding source minute
@@ -188,13 +194,14 @@ missing-minutes-requires c κs = search needs
 returns-7 : tie.Need-returns-7
 unfolding source minute
 returns-7 c =
-    λ table tabled.
+    (λ table tabled.
     let told = c .before .before .before .before in
     let p = earlier-given (told .before .before .before) in
     let q = later-given told in
     certified (found (told .before .before .before)) _ _
     (pass _ _ _ _ (p .1) (pass _ _ _ _ (q .1)
-    (end _ _ (record { change = c .before .minus .ensures .value ∙ less (q .2) (p .2); absent = c .missing-minutes .ensures }))))
+    (end _ _ (record { change = c .before .minus .ensures .value ∙ less (q .2) (p .2); absent = c .missing-minutes .ensures })))),
+    refl)
 
 pub tendency-spec : {M : Type 1} → statement M
 tendency-spec =

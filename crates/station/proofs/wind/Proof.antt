@@ -1,5 +1,5 @@
 -- `wind` meets its contract: the minute, both readings in turn, then the true wind. Assumes nothing.
-use mathlib.Core.Path.{_≡_, sym, ap, subst}
+use mathlib.Core.Path.{_≡_, refl, sym, ap, subst}
 use mathlib.Core.Bool.{not}
 use Prim.Native.Nat.{ℕ}
 use denote.Ref.{now}
@@ -30,7 +30,7 @@ holds-requires : tie.Need-holds-requires
 holds-requires c κs = search needs
 
 returns : tie.Need-returns
-returns c = λ table tabled. stop _ _ _ (late (c .before .before .args .minute) _ (c .before .holds .ensures) (not-true _ (c .if1 .taken)))
+returns c = (λ table tabled. stop _ _ _ (late (c .before .before .args .minute) _ (c .before .holds .ensures) (not-true _ (c .if1 .taken))), refl)
 
 read-at-requires : tie.Need-read-at-requires
 read-at-requires c κs = search needs
@@ -63,24 +63,26 @@ blowing-requires c κs =
 
 returns-2 : tie.Need-returns-2
 returns-2 c =
-    λ table tabled.
+    (λ table tabled.
     let at = c .before .before in
     pass _ _ _ _ (timely (at .before .before .before .args .minute) _ (at .before .before .holds .ensures) (not-false _ (at .before .if1 .left)))
-    (stop _ _ _ (ap not (apparent-is at NotThere (c .enum-told .given .1))))
+    (stop _ _ _ (ap not (apparent-is at NotThere (c .enum-told .given .1)))),
+    refl)
 
 returns-3 : tie.Need-returns-3
 returns-3 c =
-    λ table tabled.
+    (λ table tabled.
     let two = c .before .before in
     let found = two .before .before .apparent .given in
     let at = two .before .before .before .before in
     pass _ _ _ _ (timely (at .before .before .before .args .minute) _ (at .before .before .holds .ensures) (not-false _ (at .before .if1 .left)))
     (pass _ _ _ _ (ap not (apparent-is at (Both (found .0 .0) (found .0 .1 .0)) (found .1) .0))
-    (stop _ _ _ (ap not (ship-is two NotThere (c .enum-told2 .given .1)))))
+    (stop _ _ _ (ap not (ship-is two NotThere (c .enum-told2 .given .1))))),
+    refl)
 
 returns-4 : tie.Need-returns-4
 returns-4 c =
-    λ table tabled.
+    (λ table tabled.
     let two = c .before .before .before .before in
     let found = two .before .before .apparent .given in
     let moved = c .before .before .ship .given in
@@ -92,7 +94,8 @@ returns-4 c =
     pass _ _ _ _ (timely (at .before .before .before .args .minute) _ (at .before .before .holds .ensures) (not-false _ (at .before .if1 .left)))
     (pass _ _ _ _ (ap not (x .0))
     (pass _ _ _ _ (ap not (y .0))
-    (blowing-of (c .blowing .result) (y .2) (y .1) (x .1) (x .2) (c .blowing .ensures))))
+    (blowing-of (c .blowing .result) (y .2) (y .1) (x .1) (x .2) (c .blowing .ensures)))),
+    refl)
 
 pub wind-spec : {M : Type 1} → statement M
 wind-spec =
