@@ -42,7 +42,7 @@ pub enum WorkedPressure {
     OutsideCertificate,
 }
 
-// The tenths of a reading in the barometer's unit, or 0, which lies outside the limits of both units: it is in the other one.
+// The tenths of a reading in the barometer's unit. Of one in the other unit 0, which lies outside the limits of both.
 fn tenths_in(unit: BarometerUnit, reading: BarometerReading) -> Number
     ensures { λ r. ⌜ r .v ≡ tenthsIn unit (readingAs reading) ⌝ }
 {
@@ -53,10 +53,11 @@ fn tenths_in(unit: BarometerUnit, reading: BarometerReading) -> Number
             BarometerUnit::Millimetres => nothing,
         },
         BarometerReading::Millimetres(p) => {
-            let n = p.0;
+            let kept = p.0;
+            let n = kept.number();
             match unit {
                 BarometerUnit::Hectopascals => nothing,
-                BarometerUnit::Millimetres => n.number(),
+                BarometerUnit::Millimetres => n,
             }
         }
     }

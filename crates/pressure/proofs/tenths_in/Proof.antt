@@ -17,14 +17,14 @@ enum-told-2 c = search needs
 enum-known-reading-2 : tie.Need-enum-known-reading-2
 enum-known-reading-2 c = search needs
 
+number-requires : tie.Need-number-requires
+number-requires c κs = search needs
+
 enum-told-3 : tie.Need-enum-told-3
 enum-told-3 c = search needs
 
 enum-told-4 : tie.Need-enum-told-4
 enum-told-4 c = search needs
-
-number-requires : tie.Need-number-requires
-number-requires c κs = search needs
 
 returns : tie.Need-returns
 unfolding tenthsIn
@@ -50,9 +50,9 @@ tenths-in-spec =
     enum-told
     enum-told-2
     enum-known-reading-2
+    number-requires
     enum-told-3
     enum-told-4
-    number-requires
     returns
     returns-2
     returns-3
