@@ -1,18 +1,17 @@
 -- The answers, by the tests that the code makes. Assumes nothing.
 use mathlib.Core.Path.{_≡_, refl, sym, ap, ap₂, _∙_}
-use mathlib.Core.Bool.{Bool, true, false}
+use mathlib.Core.Bool.{Bool, true, false, _&&_}
 use lib.IntN.{ℤ, _+ℤ_}
 use Rattle.number.specs.Refusal.{refused, given, answer}
 use Rattle.number.specs.declared.Number.{Number}
 use Rattle.quantity.specs.Limits.{inside, pressureLimits, wheelhouse}
 use Rattle.quantity.specs.declared.BarometerUnit.{BarometerUnit}
-use Rattle.pressure.specs.Pressure.{Barometer, scale, outside, temperature, height, toHectopascals, seaLevel, stationPressure, scaled, scaledAs, seaLevelAnswer, stationAnswer}
+use Rattle.quantity.specs.declared.BarometerUnit.the-variants.{Hectopascals, Millimetres}
+use Rattle.pressure.specs.Pressure.{Barometer, readingAs, inUnit, tenthsIn, isReading, scale, outside, temperature, height, toHectopascals, seaLevel, stationPressure, scaled, scaledAs, seaLevelAnswer, stationAnswer}
+use Rattle.pressure.specs.declared.BarometerReading.{BarometerReading}
+use Rattle.pressure.specs.declared.BarometerReading.the-variants as reading
 use Rattle.pressure.specs.declared.ScaleCorrection.{ScaleCorrection}
 use Rattle.pressure.specs.declared.ScaleCorrection.the-variants.{Tenths, NoneThere}
-
--- the limits are those of the unit that was read
-pub by-unit : (r : ℤ) {u w : BarometerUnit} {x t : Bool} → u ≡ w → x ≡ inside (pressureLimits u) r → x ≡ t → inside (pressureLimits w) r ≡ t
-by-unit r e h k = sym (ap (λ (v : BarometerUnit). inside (pressureLimits v) r) e) ∙ sym h ∙ k
 
 module _ (b : Barometer) (r : ℤ) where
   -- ---- what an answer of the scale correction says
@@ -37,45 +36,70 @@ module _ (b : Barometer) (r : ℤ) where
       go true h = let e′ = rw (n, h) at e in record { there = cc; is = cc }
       go false h = let e′ = rw (n, h) at e in record { there = h; is = cc }
 
+-- ---- the answers, of a reading x that has r tenths in the barometer's unit u
+
+module _ (b : Barometer) (x : BarometerReading) {u : BarometerUnit} {r : ℤ} (e : u ≡ b .unit) (h : r ≡ tenthsIn u (readingAs x)) where
+  tenths : r ≡ tenthsIn (b .unit) (readingAs x)
+  tenths = h ∙ ap (λ (v : BarometerUnit). tenthsIn v (readingAs x)) e
+
+  -- one in the other unit has 0 tenths, which lies outside the limits
+  is-reading : {t : Bool} → inside (pressureLimits u) r ≡ t → isReading b (readingAs x) ≡ t
+  unfolding inUnit tenthsIn
+  is-reading i =
+      go (b .unit) x ∙ sym (ap₂ (λ (v : BarometerUnit) (z : ℤ). inside (pressureLimits v) z) e tenths) ∙ i
+    where
+      go : (v : BarometerUnit) (y : BarometerReading)
+          → (inUnit v (readingAs y) && inside (pressureLimits v) (tenthsIn v (readingAs y))) ≡ inside (pressureLimits v) (tenthsIn v (readingAs y))
+      go Hectopascals (reading.Hectopascals p) = refl
+      go Hectopascals (reading.Millimetres p) = refl
+      go Millimetres (reading.Hectopascals p) = refl
+      go Millimetres (reading.Millimetres p) = refl
+
+  certified : {t : Bool} → outside b r ≡ t → outside b (tenthsIn (b .unit) (readingAs x)) ≡ t
+  certified o = sym (ap (outside b) tenths) ∙ o
+
   -- ---- station pressure
 
-  pub station-limits : inside (pressureLimits (b .unit)) r ≡ false → refused 7 ≡ stationAnswer b r
+  pub station-limits : inside (pressureLimits u) r ≡ false → refused 7 ≡ stationAnswer b (readingAs x)
   unfolding stationAnswer answer
-  station-limits i = rw i
+  station-limits i = rw (is-reading i)
 
-  pub station-outside : inside (pressureLimits (b .unit)) r ≡ true → outside b r ≡ true → refused 12 ≡ stationAnswer b r
+  pub station-outside : inside (pressureLimits u) r ≡ true → outside b r ≡ true → refused 12 ≡ stationAnswer b (readingAs x)
   unfolding stationAnswer answer
-  station-outside i o = rw (i, o)
+  station-outside i o = rw (is-reading i, certified o)
 
-  -- x is worked of y tenths, the reading plus its correction z
-  pub station-given : {u : BarometerUnit} {x y z : ℤ} → inside (pressureLimits (b .unit)) r ≡ true → Worked z
-      → u ≡ b .unit → y ≡ r +ℤ z → x ≡ toHectopascals u y → given x ≡ stationAnswer b r
+  -- p is worked of y tenths, the reading plus its correction z
+  pub station-given : {p y z : ℤ} → inside (pressureLimits u) r ≡ true → Worked b r z
+      → y ≡ r +ℤ z → p ≡ toHectopascals u y → given p ≡ stationAnswer b (readingAs x)
   unfolding stationAnswer stationPressure answer
-  station-given i w e f k = rw (i, w .there) (ap given (k ∙ ap₂ toHectopascals e (f ∙ ap (λ (s : ℤ). r +ℤ s) (w .is))))
+  station-given i w f k =
+      rw (is-reading i, certified (w .there))
+      (ap given (k ∙ ap₂ toHectopascals e (f ∙ ap (λ (s : ℤ). r +ℤ s) (w .is)) ∙ ap (stationPressure b) tenths))
 
   -- ---- sea level pressure
 
   module _ (t : ℤ) where
-    pub sea-limits : inside (pressureLimits (b .unit)) r ≡ false → refused 7 ≡ seaLevelAnswer b r t
+    pub sea-limits : inside (pressureLimits u) r ≡ false → refused 7 ≡ seaLevelAnswer b (readingAs x) t
     unfolding seaLevelAnswer answer
-    sea-limits i = rw i
+    sea-limits i = rw (is-reading i)
 
-    pub sea-limits-2 : inside (pressureLimits (b .unit)) r ≡ true → inside wheelhouse t ≡ false → refused 7 ≡ seaLevelAnswer b r t
+    pub sea-limits-2 : inside (pressureLimits u) r ≡ true → inside wheelhouse t ≡ false → refused 7 ≡ seaLevelAnswer b (readingAs x) t
     unfolding seaLevelAnswer answer
-    sea-limits-2 i j = rw (i, j)
+    sea-limits-2 i j = rw (is-reading i, j)
 
-    pub sea-outside : inside (pressureLimits (b .unit)) r ≡ true → inside wheelhouse t ≡ true → outside b r ≡ true → refused 12 ≡ seaLevelAnswer b r t
+    pub sea-outside : inside (pressureLimits u) r ≡ true → inside wheelhouse t ≡ true → outside b r ≡ true → refused 12 ≡ seaLevelAnswer b (readingAs x) t
     unfolding seaLevelAnswer answer
-    sea-outside i j o = rw (i, j, o)
+    sea-outside i j o = rw (is-reading i, j, certified o)
 
-    -- x is worked of y tenths, the reading plus its three corrections, z by the scale
-    pub sea-given : {u : BarometerUnit} {x y z : ℤ} → inside (pressureLimits (b .unit)) r ≡ true → inside wheelhouse t ≡ true → Worked z
-        → u ≡ b .unit → y ≡ r +ℤ z +ℤ temperature (b .coefficient) t +ℤ height (b .unit) (b .height) (b .difference)
-        → x ≡ toHectopascals u y → given x ≡ seaLevelAnswer b r t
+    -- p is worked of y tenths, the reading plus its three corrections, z by the scale
+    pub sea-given : {p y z : ℤ} → inside (pressureLimits u) r ≡ true → inside wheelhouse t ≡ true → Worked b r z
+        → y ≡ r +ℤ z +ℤ temperature (b .coefficient) t +ℤ height (b .unit) (b .height) (b .difference)
+        → p ≡ toHectopascals u y → given p ≡ seaLevelAnswer b (readingAs x) t
     unfolding seaLevelAnswer seaLevel answer
-    sea-given i j w e f k =
-        rw (i, j, w .there)
+    sea-given i j w f k =
+        rw (is-reading i, j, certified (w .there))
         (ap given
         (k
         ∙ ap₂ toHectopascals e
-        (f ∙ ap (λ (s : ℤ). r +ℤ s +ℤ temperature (b .coefficient) t +ℤ height (b .unit) (b .height) (b .difference)) (w .is))))
+        (f ∙ ap (λ (s : ℤ). r +ℤ s +ℤ temperature (b .coefficient) t +ℤ height (b .unit) (b .height) (b .difference)) (w .is))
+        ∙ ap (λ (q : ℤ). seaLevel b q t) tenths))

@@ -1,24 +1,25 @@
 -- What the worked pressures are worth. For settings that a store opens with, and readings within their limits, each lies within
 -- what a watch file records, and so does any change of one: a reading is moved by at most 20.0 of its unit (5.0, 3.0 and 12.0).
--- And a block that was opened works as its settings say. Assumes nothing.
+-- A block that was opened works as its settings say. And the two units of pressure are kept apart. Assumes nothing.
 use mathlib.Core.Path.{_≡_, refl, ap, _∙_}
-use mathlib.Core.Bool.{true, not, _&&_}
+use mathlib.Core.Bool.{true, false, not, _&&_}
 use Prim.Native.Nat.{ℕ, zero, suc, _+_, _-_, _≤_, _<_}
 use native.Mathlib.Omega.{arith}
 use lib.Dec.{lit≤}
 use lib.IntN.{ℤ, pos, negℤ, natAbs, _-ℤ_}
-use Rattle.number.specs.Refusal.{given}
+use Rattle.number.specs.Refusal.{refused, given, answer}
 use Rattle.number.proofs.Sizes.{within-size, and-true}
 use Rattle.quantity.specs.Limits.{inside, pressureLimits, recordedPressure, wheelhouse}
 use Rattle.quantity.specs.declared.BarometerUnit.{BarometerUnit}
 use Rattle.quantity.specs.declared.BarometerUnit.the-variants.{Hectopascals, Millimetres}
+use Rattle.message.specs.Receive.{Figure, pressure}
 use Rattle.settings.specs.Settings.{every, pointAt, correction, othersHold, checked}
 use Rattle.settings.specs.Settings as settings
 use Rattle.settings.specs.declared.Settings.{Settings}
 use Rattle.settings.specs.declared.Point.{Point}
 use Rattle.block.specs.Words.{opened}
 use Rattle.block.proofs.SettingsLaws.{others, each, settings-back}
-use Rattle.pressure.specs.Pressure.{Barometer, barometerIn, barometerOf, around, scaleFrom, scale, outside, temperature, height, seaLevel, stationPressure}
+use Rattle.pressure.specs.Pressure.{Barometer, barometerIn, barometerOf, around, scaleFrom, scale, outside, inUnit, tenthsIn, temperature, height, seaLevel, stationPressure, seaLevelAnswer, stationAnswer}
 use Rattle.pressure.proofs.ScaleLaws.{two}
 use Rattle.pressure.proofs.SizeLaws.{scale-size, temperature-size, height-size}
 use Rattle.pressure.proofs.NearLaws.{Among, apart, recorded, highest, sea-level-near, station-near}
@@ -137,3 +138,16 @@ pub opened-alike : (g : Settings) → checked g ≡ given tt → Alike (baromete
 opened-alike g good =
     let s = settings-back g good in
     record { unit = s .unit; height = s .height; difference = s .difference; coefficient = s .coefficient; points = s .points; point = s .point }
+
+-- ---- "millimetres of mercury and hectopascals, are kept apart"
+
+-- A figure in the barometer's own unit says its tenths.
+pub own-unit : (u : BarometerUnit) (z : ℤ) → (inUnit u (pressure u z) ≡ true) × (tenthsIn u (pressure u z) ≡ z)
+unfolding inUnit tenthsIn
+own-unit Hectopascals z = (refl, refl)
+own-unit Millimetres z = (refl, refl)
+
+-- Any other figure, whatever its number, is refused.
+pub other-unit : (b : Barometer) (f : Figure) (t : ℤ) → inUnit (b .unit) f ≡ false → (seaLevelAnswer b f t ≡ refused 7) × (stationAnswer b f ≡ refused 7)
+unfolding seaLevelAnswer stationAnswer answer
+other-unit b f t h = (rw h, rw h)

@@ -1,6 +1,6 @@
 -- Sea level pressure and station pressure (document 01, "Pressure and tendency" and "Humidity"; 004, section 6).
--- Readings, corrections and temperatures are in tenths.
-use mathlib.Core.Bool.{Bool, not, _&&_, _||_, cond}
+-- A reading comes with its unit, as a figure. Without it readings, corrections and temperatures are in tenths.
+use mathlib.Core.Bool.{Bool, true, false, not, _&&_, _||_, cond}
 use mathlib.Core.List.{List, [], _∷_}
 use Prim.Native.Nat.{ℕ, zero, suc, _+_, _-_}
 use lib.IntN.{ℤ, pos, natAbs, _+ℤ_, _-ℤ_, _*ℤ_}
@@ -11,10 +11,13 @@ use Rattle.quantity.specs.Limits.{inside, pressureLimits, wheelhouse}
 use Rattle.quantity.specs.Convert.{inHectopascals}
 use Rattle.quantity.specs.declared.BarometerUnit.{BarometerUnit}
 use Rattle.quantity.specs.declared.BarometerUnit.the-variants.{Hectopascals, Millimetres}
+use Rattle.message.specs.Receive.{Figure, hPa, mmHg, °C, m/s, kn, deg, none}
 use Rattle.settings.specs.Settings.{every, pointAt, rises}
 use Rattle.settings.specs.declared.Settings.{Settings}
 use Rattle.settings.specs.declared.Point.{Point}
 use Rattle.block.specs.Words.{unitOf, settingOf, pointsOf, pointOf}
+use Rattle.pressure.specs.declared.BarometerReading.{BarometerReading}
+use Rattle.pressure.specs.declared.BarometerReading.the-variants as reading
 use Rattle.pressure.specs.declared.ScaleCorrection.{ScaleCorrection}
 use Rattle.pressure.specs.declared.ScaleCorrection.the-variants.{Tenths, NoneThere}
 use Rattle.pressure.specs.declared.WorkedPressure.{WorkedPressure}
@@ -51,6 +54,34 @@ barometerOf s =
       points = pointsOf s;
       point = pointOf s;
     }
+
+-- ---- a reading in its unit
+
+-- Document 01's figure of each case.
+abbrev pub readingAs : BarometerReading → Figure
+readingAs (reading.Hectopascals p) = hPa (p .0 .v)
+readingAs (reading.Millimetres p) = mmHg (p .0 .v)
+
+-- A figure by its unit: hPa, mm Hg, or another.
+abbrev pub byUnit : {A : Type 0} → (ℤ → A) → (ℤ → A) → A → Figure → A
+byUnit inHPa inMmHg other (hPa z) = inHPa z
+byUnit inHPa inMmHg other (mmHg z) = inMmHg z
+byUnit inHPa inMmHg other (°C z) = other
+byUnit inHPa inMmHg other (m/s z) = other
+byUnit inHPa inMmHg other (kn z) = other
+byUnit inHPa inMmHg other (deg z) = other
+byUnit inHPa inMmHg other none = other
+
+-- Whether a figure is a pressure in a barometer's unit.
+unfoldable pub inUnit : BarometerUnit → Figure → Bool
+inUnit Hectopascals f = byUnit (λ z. true) (λ z. false) false f
+inUnit Millimetres f = byUnit (λ z. false) (λ z. true) false f
+
+-- Its tenths. Of any other figure no pressure is worked: "millimetres of mercury and hectopascals, are kept apart until a
+-- formula joins them".
+unfoldable pub tenthsIn : BarometerUnit → Figure → ℤ
+tenthsIn Hectopascals f = byUnit (λ z. z) (λ z. pos 0) (pos 0) f
+tenthsIn Millimetres f = byUnit (λ z. pos 0) (λ z. z) (pos 0) f
 
 -- ---- the three corrections
 
@@ -110,6 +141,10 @@ stationPressure b reading = toHectopascals (b .unit) (reading +ℤ scale b readi
 
 -- ---- the answers
 
+-- A reading of this barometer: in its unit and within its limits.
+abbrev pub isReading : Barometer → Figure → Bool
+isReading b f = inUnit (b .unit) f && inside (pressureLimits (b .unit)) (tenthsIn (b .unit) f)
+
 -- 7: a reading or a temperature outside limits; 12: a reading outside the certificate
 abbrev pub outsideTest : Barometer → ℤ → Test ℕ
 outsideTest b reading = record { refusal = 12; holds = outside b reading }
@@ -117,17 +152,17 @@ outsideTest b reading = record { refusal = 12; holds = outside b reading }
 unfoldable pub scaled : Barometer → ℤ → Answer ℕ ℤ
 scaled b reading = answer (outsideTest b reading ∷ []) (scale b reading)
 
-unfoldable pub seaLevelAnswer : Barometer → ℤ → ℤ → Answer ℕ ℤ
-seaLevelAnswer b reading t =
+unfoldable pub seaLevelAnswer : Barometer → Figure → ℤ → Answer ℕ ℤ
+seaLevelAnswer b f t =
     answer
-    (record { refusal = 7; holds = not (inside (pressureLimits (b .unit)) reading) || not (inside wheelhouse t) } ∷ outsideTest b reading ∷ [])
-    (seaLevel b reading t)
+    (record { refusal = 7; holds = not (isReading b f) || not (inside wheelhouse t) } ∷ outsideTest b (tenthsIn (b .unit) f) ∷ [])
+    (seaLevel b (tenthsIn (b .unit) f) t)
 
-unfoldable pub stationAnswer : Barometer → ℤ → Answer ℕ ℤ
-stationAnswer b reading =
+unfoldable pub stationAnswer : Barometer → Figure → Answer ℕ ℤ
+stationAnswer b f =
     answer
-    (record { refusal = 7; holds = not (inside (pressureLimits (b .unit)) reading) } ∷ outsideTest b reading ∷ [])
-    (stationPressure b reading)
+    (record { refusal = 7; holds = not (isReading b f) } ∷ outsideTest b (tenthsIn (b .unit) f) ∷ [])
+    (stationPressure b (tenthsIn (b .unit) f))
 
 -- Document 01's number and value of each case.
 abbrev pub scaledAs : ScaleCorrection → Answer ℕ ℤ

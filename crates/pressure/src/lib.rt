@@ -1,12 +1,12 @@
-// The corrections of a barometer's reading, the pressure at sea level and the pressure at the station.
-// A reading is a number of tenths of the unit that the store is set to.
+// The pressure at sea level and the pressure at the station, from a barometer's reading and its corrections.
+// A reading comes with its unit. Behind `tenths_in` a number is one of tenths of the unit that the store is set to.
 ghost use mathlib.Core.Path.{_≡_};
 ghost use mathlib.Core.Bool.{true};
 ghost use Prim.Native.Nat.{_≤_, _<_, _^_};
 ghost use lib.IntN.{natAbs, _+ℤ_, _*ℤ_};
 ghost use Rattle.number.specs.Whole.{Is};
 ghost use Rattle.block.specs.Words.{unitOf, settingOf};
-ghost use Rattle.pressure.specs.Pressure.{barometerOf, around, line, between, temperature, height, toHectopascals, scaled, scaledAs, seaLevelAnswer, stationAnswer, pressureAs};
+ghost use Rattle.pressure.specs.Pressure.{barometerOf, around, line, between, temperature, height, toHectopascals, tenthsIn, readingAs, scaled, scaledAs, seaLevelAnswer, stationAnswer, pressureAs};
 ghost use Rattle.pressure.specs.Stored.{Stored};
 use block::Store;
 use number::Number;
@@ -20,8 +20,14 @@ use settings::Point;
 use settings::SeaLevelDifference;
 use settings::TemperatureCoefficient;
 
+// What a barometer shows, in its unit.
+pub enum BarometerReading {
+    Hectopascals(Hectopascals),
+    Millimetres(Millimetres),
+}
+
 // The scale correction of a reading.
-pub enum ScaleCorrection {
+enum ScaleCorrection {
     Tenths(Number),
     // 12: the reading lies outside the certificate
     NoneThere,
@@ -30,10 +36,31 @@ pub enum ScaleCorrection {
 // A pressure that was worked from a reading.
 pub enum WorkedPressure {
     Given(Hectopascals),
-    // 7: the reading or the temperature is outside its limits
+    // 7: the reading or the temperature is outside its limits, or the reading is in another unit than the store's
     OutsideLimits,
     // 12
     OutsideCertificate,
+}
+
+// The tenths of a reading in the barometer's unit. Of one in the other unit 0, which lies outside the limits of both.
+fn tenths_in(unit: BarometerUnit, reading: BarometerReading) -> Number
+    ensures { λ r. ⌜ r .v ≡ tenthsIn unit (readingAs reading) ⌝ }
+{
+    let nothing = Number { v: 0 };
+    match reading {
+        BarometerReading::Hectopascals(p) => match unit {
+            BarometerUnit::Hectopascals => p.0,
+            BarometerUnit::Millimetres => nothing,
+        },
+        BarometerReading::Millimetres(p) => {
+            let kept = p.0;
+            let n = kept.number();
+            match unit {
+                BarometerUnit::Hectopascals => nothing,
+                BarometerUnit::Millimetres => n,
+            }
+        }
+    }
 }
 
 // Whether two neighbouring points of a certificate stand round a reading.
@@ -88,7 +115,7 @@ fn between(p: Point, q: Point, reading: Number) -> Number
 }
 
 // The scale correction: the first two neighbouring points that stand round the reading give it. Or refusal 12: there are none.
-pub fn scale_correction(store: &Store, reading: Number) -> ScaleCorrection
+fn scale_correction(store: &Store, reading: Number) -> ScaleCorrection
     ensures { λ r. ⌜ scaledAs r ≡ scaled (barometerOf (now (store .entry))) (reading .v) ⌝ }
 {
     let n = block::points(store);
@@ -105,7 +132,7 @@ pub fn scale_correction(store: &Store, reading: Number) -> ScaleCorrection
 }
 
 // The temperature correction, in tenths of the barometer's unit.
-pub fn temperature_correction(k: TemperatureCoefficient, t: WheelhouseTemperature) -> Number
+fn temperature_correction(k: TemperatureCoefficient, t: WheelhouseTemperature) -> Number
     ensures { λ r. ⌜ r .v ≡ temperature (k .0 .v) (t .0 .v) ⌝ }
 {
     let coefficient = k.0;
@@ -114,7 +141,7 @@ pub fn temperature_correction(k: TemperatureCoefficient, t: WheelhouseTemperatur
 }
 
 // The height correction, in tenths of the barometer's unit.
-pub fn height_correction(unit: BarometerUnit, h: Height, difference: SeaLevelDifference) -> Number
+fn height_correction(unit: BarometerUnit, h: Height, difference: SeaLevelDifference) -> Number
     ensures { λ r. ⌜ r .v ≡ height unit (h .0 .v) (difference .0 .v) ⌝ }
 {
     let ship = h.0;
@@ -165,40 +192,42 @@ fn corrected(
 // The pressure at sea level: the reading plus its three corrections, in hPa. Or the first of refusals 7 and 12 that holds.
 pub fn sea_level_pressure(
     store: &Store,
-    reading: Number,
+    reading: BarometerReading,
     wheelhouse: WheelhouseTemperature,
 ) -> WorkedPressure
-    ensures { λ r. ⌜ pressureAs r ≡ seaLevelAnswer (barometerOf (now (store .entry))) (reading .v) (wheelhouse .0 .v) ⌝ }
+    ensures { λ r. ⌜ pressureAs r ≡ seaLevelAnswer (barometerOf (now (store .entry))) (readingAs reading) (wheelhouse .0 .v) ⌝ }
 {
     let unit = block::unit(store);
+    let tenths = tenths_in(unit, reading);
     let degrees = wheelhouse.0;
-    if !unit.holds(reading) {
+    if !unit.holds(tenths) {
         return WorkedPressure::OutsideLimits;
     }
     if !WheelhouseTemperature::holds(degrees.number()) {
         return WorkedPressure::OutsideLimits;
     }
-    match scale_correction(store, reading) {
+    match scale_correction(store, tenths) {
         ScaleCorrection::NoneThere => WorkedPressure::OutsideCertificate,
         ScaleCorrection::Tenths(scale) => {
-            let all = corrected(store, reading, scale, wheelhouse);
+            let all = corrected(store, tenths, scale, wheelhouse);
             WorkedPressure::Given(in_hectopascals(unit, all))
         }
     }
 }
 
 // The pressure at the station, for humidity: the reading plus its scale correction, in hPa. Or refusal 7 or 12 likewise.
-pub fn station_pressure(store: &Store, reading: Number) -> WorkedPressure
-    ensures { λ r. ⌜ pressureAs r ≡ stationAnswer (barometerOf (now (store .entry))) (reading .v) ⌝ }
+pub fn station_pressure(store: &Store, reading: BarometerReading) -> WorkedPressure
+    ensures { λ r. ⌜ pressureAs r ≡ stationAnswer (barometerOf (now (store .entry))) (readingAs reading) ⌝ }
 {
     let unit = block::unit(store);
-    if !unit.holds(reading) {
+    let tenths = tenths_in(unit, reading);
+    if !unit.holds(tenths) {
         return WorkedPressure::OutsideLimits;
     }
-    match scale_correction(store, reading) {
+    match scale_correction(store, tenths) {
         ScaleCorrection::NoneThere => WorkedPressure::OutsideCertificate,
         ScaleCorrection::Tenths(scale) => {
-            let sum = reading.plus(scale);
+            let sum = tenths.plus(scale);
             WorkedPressure::Given(in_hectopascals(unit, sum))
         }
     }
