@@ -1,10 +1,12 @@
--- A block that was just opened: it is set to the unit of its settings, and every word behind the settings is 0. Assumes nothing.
+-- A block that was just opened: it is a store, it is set to the unit of its settings, and every word behind the settings is 0.
+-- Assumes nothing.
 use mathlib.Core.Path.{_≡_, refl, ap, _∙_}
-use mathlib.Core.Bool.{Bool, true, _&&_, cond}
+use mathlib.Core.Bool.{Bool, true, _&&_}
+use mathlib.Core.List.{[], _∷_}
 use Prim.Native.Nat.{ℕ, _+_, _-_, _≤_, _<_}
 use native.Mathlib.Nat.{zero-add}
 use native.Mathlib.Omega.{arith}
-use lib.Dec.{eqb, leb, lit<}
+use lib.Dec.{leb, lit<}
 use lib.ListN.{getD, drop, length}
 use lib.Seq.{getD-take, getD-drop}
 use borrow.Author.Tests.{leb-true, ne-eqb, le-ltb, not-false}
@@ -19,11 +21,15 @@ use Rattle.window.specs.Layout.{WINDOW}
 use Rattle.window.specs.Window.{next}
 use Rattle.cell.specs.Cells.{CHANNELS}
 use Rattle.block.specs.Layout.{POINTS, SETTINGS, WORDS, base}
-use Rattle.block.specs.Words.{unitWord, openedWord, opened, unitOf, windowOf}
+use Rattle.block.specs.Words.{unitWord, openedWord, opened, isStore, unitOf, windowOf}
 use Rattle.cell.proofs.ReceivedLaws.{fails}
 use Rattle.block.proofs.ListedLaws.{length-listed, getD-listed}
 
-unit-back : (u : BarometerUnit) → cond (eqb (unitWord u) 0) Hectopascals Millimetres ≡ u
+marked : (u : BarometerUnit) → isStore (unitWord u ∷ []) ≡ true
+marked Hectopascals = refl
+marked Millimetres = refl
+
+unit-back : (u : BarometerUnit) → unitOf (unitWord u ∷ []) ≡ u
 unit-back Hectopascals = refl
 unit-back Millimetres = refl
 
@@ -33,6 +39,10 @@ opened-long g = length-listed (openedWord g) 0 WORDS
 -- the word at a place
 pub word-at : (g : Settings) (k : ℕ) → k < WORDS → getD (opened g) k 0 ≡ openedWord g k
 word-at g k h = getD-listed (openedWord g) 0 WORDS k h ∙ ap (openedWord g) (zero-add k)
+
+pub opened-is-store : (g : Settings) → isStore (opened g) ≡ true
+unfolding openedWord
+opened-is-store g = rw (word-at g 0 (lit< tt)) (marked (g .unit))
 
 pub opened-unit : (g : Settings) → unitOf (opened g) ≡ g .unit
 unfolding openedWord

@@ -8,7 +8,7 @@ use Rattle.settings.specs.declared.SeaLevelDifference.{SeaLevelDifference}
 use Rattle.settings.specs.declared.TemperatureCoefficient.{TemperatureCoefficient}
 use Rattle.settings.specs.declared.PsychrometerCoefficient.{PsychrometerCoefficient}
 use Rattle.block.proofs.lay.Reads as lay
-use Rattle.block.proofs.unit_in.Reads as unit-in
+use Rattle.block.proofs.is_store.Reads as is-store
 use Rattle.block.proofs.unit.Reads as unit
 use Rattle.block.proofs.height.Reads as height
 use Rattle.block.proofs.difference.Reads as difference
@@ -23,8 +23,8 @@ single-lay κs a r r′ s s′ p q = refl
 pub single-lay-left : SingleLeft lay.Post (λ κs s. s .0 .now)
 single-lay-left κs a r r′ s s′ p q = p ∙ sym q
 
-pub single-unit-in : Single unit-in.Post
-single-unit-in κs a r r′ s s′ p q = p ∙ sym q
+pub single-is-store : Single is-store.Post
+single-is-store κs a r r′ s s′ p q = p ∙ sym q
 
 pub single-unit : Single unit.Post
 single-unit κs a r r′ s s′ p q = p ∙ sym q

@@ -3,7 +3,15 @@ use Prim.Native.Nat.{ℕ, _+_, _*_}
 use Rattle.window.specs.Layout.{WINDOW}
 use Rattle.cell.specs.Cells.{CHANNELS}
 
--- Unit, height, difference, temperature coefficient, psychrometer coefficient, number of points; then the points.
+-- The mark of a store, which no memory holds by chance: the letters ZHITOMRA, a byte each.
+abbrev pub MARK : ℕ
+MARK = 0x5A48_4954_4F4D_5241
+
+-- What a block without the mark answers, none of document 01's numbers: the block is no store.
+abbrev pub NO_STORE : ℕ
+NO_STORE = 255
+
+-- Mark and unit, height, difference, temperature coefficient, psychrometer coefficient, number of points; then the points.
 abbrev pub POINTS : ℕ
 POINTS = 6
 

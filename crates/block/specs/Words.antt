@@ -1,5 +1,5 @@
 -- The words of the block, for any block whatever: the settings as they are laid and read back, and a channel's part.
-use mathlib.Core.Bool.{cond}
+use mathlib.Core.Bool.{Bool, _||_, cond}
 use mathlib.Core.List.{List, [], _∷_, _++_}
 use Prim.Native.Nat.{ℕ, zero, suc, _+_, _-_, _*_, _/_, min}
 use lib.Dec.{eqb, ltb}
@@ -12,13 +12,14 @@ use Rattle.settings.specs.declared.Settings.{Settings}
 use Rattle.settings.specs.declared.Point.{Point}
 use Rattle.window.specs.Layout.{WINDOW}
 use Rattle.cell.specs.Cells.{biased, unbiased}
-use Rattle.block.specs.Layout.{POINTS, SETTINGS, WORDS, base}
+use Rattle.block.specs.Layout.{MARK, POINTS, SETTINGS, WORDS, base}
 
 -- ---- the settings as they are laid
 
+-- The first word: the mark of a store and the unit at once.
 abbrev pub unitWord : BarometerUnit → ℕ
-unitWord Hectopascals = 0
-unitWord Millimetres = 1
+unitWord Hectopascals = MARK
+unitWord Millimetres = MARK + 1
 
 abbrev pub pointWord : Point → ℕ
 pointWord p = biased (p .reading .v) + 65536 * biased (p .correction .0 .v)
@@ -53,9 +54,13 @@ laid s = listed (laidWord s) 0 WORDS
 
 -- ---- the settings as they are read back
 
+-- Whether a block is a store: its first word is that of a unit. ("a refused opening gives no store")
+abbrev pub isStore : List ℕ → Bool
+isStore s = eqb (getD s 0 0) (unitWord Hectopascals) || eqb (getD s 0 0) (unitWord Millimetres)
+
 -- The unit that a block is set to.
 abbrev pub unitOf : List ℕ → BarometerUnit
-unitOf s = cond (eqb (getD s 0 0) 0) Hectopascals Millimetres
+unitOf s = cond (eqb (getD s 0 0) (unitWord Hectopascals)) Hectopascals Millimetres
 
 -- The settings that a block holds, by their words' places.
 abbrev pub settingOf : List ℕ → ℕ → ℤ

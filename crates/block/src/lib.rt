@@ -1,9 +1,9 @@
-// The lent block: the settings laid into it and read back, and behind them a window for each of six channels, side by side.
+// The lent block: the mark of a store and its settings, laid into it and read back, and behind them a window for each of six channels,
+// side by side.
 ghost use mathlib.Core.Path.{_≡_};
-ghost use mathlib.Core.List.{[], _∷_};
 ghost use Prim.Native.Nat.{_<_};
 ghost use Rattle.block.specs.Layout.{SETTINGS};
-ghost use Rattle.block.specs.Words.{unitWord, openedWord, laid, unitOf, settingOf, pointsOf, pointOf};
+ghost use Rattle.block.specs.Words.{unitWord, openedWord, laid, isStore, unitOf, settingOf, pointsOf, pointOf};
 use cell::CHANNELS;
 use number::Kept;
 use quantity::BarometerUnit;
@@ -16,7 +16,7 @@ use settings::Settings;
 use settings::TemperatureCoefficient;
 use window::WINDOW;
 
-// The settings' words: unit, height, difference, two coefficients, number of points; then the points.
+// The settings' words: mark and unit, height, difference, two coefficients, number of points; then the points.
 const POINTS: usize = 6;
 
 pub const SETTINGS: usize = POINTS + settings::POINTS;
@@ -25,14 +25,21 @@ pub const WORDS: usize = SETTINGS + CHANNELS * WINDOW;
 
 pub type Store = [u64; WORDS];
 
+// The mark of a store, which no memory holds by chance: the letters ZHITOMRA, a byte each. It is the first word of a store whose
+// barometer reads in hPa; with one in mm Hg that word is one more.
+const MARK: u64 = 0x5A48_4954_4F4D_5241;
+
+// What a block without the mark answers, none of document 01's numbers: the block is no store.
+pub const NO_STORE: u32 = 255;
+
 // ---- laying the settings
 
 fn unit_word(unit: BarometerUnit) -> u64
     ensures { λ r. ⌜ r ≡ unitWord unit ⌝ }
 {
     match unit {
-        BarometerUnit::Hectopascals => 0,
-        BarometerUnit::Millimetres => 1,
+        BarometerUnit::Hectopascals => MARK,
+        BarometerUnit::Millimetres => MARK + 1,
     }
 }
 
@@ -89,21 +96,25 @@ pub fn lay(store: &mut Store, g: Settings)
 
 // ---- reading them back
 
-// The unit that a block's first word tells.
-pub fn unit_in(w: u64) -> BarometerUnit
-    ensures { λ r. ⌜ r ≡ unitOf (w ∷ []) ⌝ }
+// Whether the block is a store: it bears the mark.
+pub fn is_store(store: &Store) -> bool
+    ensures { λ r. ⌜ r ≡ isStore (now (store .entry)) ⌝ }
 {
-    if w == 0 {
-        return BarometerUnit::Hectopascals;
+    let w = store[0];
+    if w == MARK {
+        return true;
     }
-    BarometerUnit::Millimetres
+    w == MARK + 1
 }
 
 // The unit of the barometer.
 pub fn unit(store: &Store) -> BarometerUnit
     ensures { λ r. ⌜ r ≡ unitOf (now (store .entry)) ⌝ }
 {
-    unit_in(store[0])
+    if store[0] == MARK {
+        return BarometerUnit::Hectopascals;
+    }
+    BarometerUnit::Millimetres
 }
 
 // The settings, as the store was opened with them.

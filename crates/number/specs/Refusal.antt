@@ -23,6 +23,11 @@ pub data Answer (R A : Type 0) : Type 0 where
   refused : R → Answer R A
   given : A → Answer R A
 
+-- The number of a refusal, or 0 where nothing is refused.
+abbrev pub numberIn : {A : Type 0} → Answer ℕ A → ℕ
+numberIn (refused n) = n
+numberIn (given a) = 0
+
 -- "exactly when its reason holds and no earlier test has refused"
 unfoldable pub answer : {R A : Type 0} → List (Test R) → A → Answer R A
 answer [] a = given a

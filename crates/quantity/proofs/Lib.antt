@@ -1,2 +1,3 @@
 pub mod ConvertLaws
+pub mod LimitLaws
 pub mod SingleAnswers

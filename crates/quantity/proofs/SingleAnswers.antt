@@ -10,10 +10,12 @@ use Rattle.quantity.specs.declared.Degrees.{Degrees}
 use Rattle.quantity.proofs.BarometerUnit.holds.Reads as barometer-unit
 use Rattle.quantity.proofs.Hectopascals.holds.Reads as hectopascals
 use Rattle.quantity.proofs.Hectopascals.recorded.Reads as recorded
+use Rattle.quantity.proofs.Hectopascals.changes.Reads as changes
 use Rattle.quantity.proofs.Millimetres.holds.Reads as millimetres
 use Rattle.quantity.proofs.WheelhouseTemperature.holds.Reads as wheelhouse-temperature
 use Rattle.quantity.proofs.BulbTemperature.holds.Reads as bulb-temperature
 use Rattle.quantity.proofs.MetresPerSecond.holds.Reads as metres-per-second
+use Rattle.quantity.proofs.MetresPerSecond.blows.Reads as blows
 use Rattle.quantity.proofs.Knots.holds.Reads as knots
 use Rattle.quantity.proofs.Degrees.holds.Reads as degrees
 use Rattle.quantity.proofs.Minute.holds.Reads as minute
@@ -31,6 +33,9 @@ single-hectopascals κs a r r′ s s′ p q = p ∙ sym q
 pub single-recorded : Single recorded.Post
 single-recorded κs a r r′ s s′ p q = p ∙ sym q
 
+pub single-changes : Single changes.Post
+single-changes κs a r r′ s s′ p q = p ∙ sym q
+
 pub single-millimetres : Single millimetres.Post
 single-millimetres κs a r r′ s s′ p q = p ∙ sym q
 
@@ -42,6 +47,9 @@ single-bulb-temperature κs a r r′ s s′ p q = p ∙ sym q
 
 pub single-metres-per-second : Single metres-per-second.Post
 single-metres-per-second κs a r r′ s s′ p q = p ∙ sym q
+
+pub single-blows : Single blows.Post
+single-blows κs a r r′ s s′ p q = p ∙ sym q
 
 pub single-knots : Single knots.Post
 single-knots κs a r r′ s s′ p q = p ∙ sym q

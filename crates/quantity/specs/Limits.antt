@@ -1,6 +1,7 @@
--- The limits of each quantity (document 01, "Messages": the table, "Limits after rounding").
+-- The limits of each quantity (document 01, "Messages": the table, "Limits after rounding"; of what is worked from readings,
+-- "Watch file").
 use mathlib.Core.Bool.{Bool}
-use Prim.Native.Nat.{ℕ}
+use Prim.Native.Nat.{ℕ, _-_}
 use lib.IntN.{ℤ, pos, negℤ}
 use Rattle.number.specs.Whole.{within}
 use Rattle.quantity.specs.declared.BarometerUnit.{BarometerUnit}
@@ -18,9 +19,13 @@ inside l z = within (l .low) (l .high) z
 abbrev pub hectopascals : Limits
 hectopascals = record { low = pos 8500; high = pos 11000 }
 
--- "1 pressure: 8000 to 11500 tenths hPa" (document 01, "Watch file")
+-- "1 pressure: 8000 to 11500 tenths hPa"
 abbrev pub recordedPressure : Limits
 recordedPressure = record { low = pos 8000; high = pos 11500 }
+
+-- "2 tendency: -3000 to 3000", in tenths of hPa
+abbrev pub pressureChange : Limits
+pressureChange = record { low = negℤ (pos 3000); high = pos 3000 }
 
 -- 640.0 to 825.0 mm Hg
 abbrev pub millimetres : Limits
@@ -43,6 +48,13 @@ bulb = record { low = negℤ (pos 400); high = pos 500 }
 abbrev pub metresPerSecond : Limits
 metresPerSecond = record { low = pos 0; high = pos 750 }
 
+-- "3 wind: speed 0 to 956", in tenths of m/s
+abbrev pub highestWind : ℕ
+highestWind = 956
+
+abbrev pub trueWind : Limits
+trueWind = record { low = pos 0; high = pos highestWind }
+
 -- ship motion: 0 to 40.0 knots
 abbrev pub knots : Limits
 knots = record { low = pos 0; high = pos 400 }
@@ -54,3 +66,11 @@ degrees = record { low = pos 0; high = pos 360 }
 -- "minute above 16,777,215" is refusal 5
 abbrev pub lastMinute : ℕ
 lastMinute = 16777215
+
+-- "Tendency at minute m: sea level pressure at m less that at m - 180"; "minute at least 180"
+abbrev pub threeHours : ℕ
+threeHours = 180
+
+-- "the 179 strictly between"
+abbrev pub minutesBetween : ℕ
+minutesBetween = threeHours - 1

@@ -3,7 +3,8 @@
 ghost use mathlib.Core.Path.{_≡_};
 ghost use Prim.Native.Nat.{ℕ, _*_, _%_};
 ghost use lib.Dec.{leb};
-ghost use Rattle.quantity.specs.Limits.{inside, hectopascals, recordedPressure, millimetres, pressureLimits, wheelhouse, bulb, metresPerSecond, knots, degrees, lastMinute};
+ghost use lib.IntN.{pos};
+ghost use Rattle.quantity.specs.Limits.{inside, hectopascals, recordedPressure, pressureChange, millimetres, pressureLimits, wheelhouse, bulb, metresPerSecond, trueWind, knots, degrees, lastMinute};
 ghost use Rattle.quantity.specs.Convert.{inHectopascals, keptDirection, partsOfKnots, partsOfMetres};
 use number::Kept;
 use number::Number;
@@ -75,6 +76,17 @@ impl Hectopascals {
     {
         n.within(Self::RECORDED_LOW, Self::RECORDED_HIGH)
     }
+
+    pub const CHANGE_LOW: Number = Number { v: -3000 };
+
+    pub const CHANGE_HIGH: Number = Number { v: 3000 };
+
+    // Whether n is a change of pressure in three hours, in tenths of hPa.
+    pub fn changes(n: Number) -> bool
+        ensures { λ r. ⌜ r ≡ inside pressureChange (n .v) ⌝ }
+    {
+        n.within(Self::CHANGE_LOW, Self::CHANGE_HIGH)
+    }
 }
 
 impl Millimetres {
@@ -137,6 +149,15 @@ impl MetresPerSecond {
         n.within(Self::LOW, Self::HIGH)
     }
 
+    pub const TRUE_HIGH: u32 = 956;
+
+    // Whether n is a speed of the true wind: worked from the ship's and the apparent wind's, and so wider than the latter.
+    pub fn blows(n: u32) -> bool
+        ensures { λ r. ⌜ r ≡ inside trueWind (pos n) ⌝ }
+    {
+        n <= Self::TRUE_HIGH
+    }
+
     // The same speed in parts of 1/12500 m/s, exactly.
     pub fn parts(self) -> SpeedParts
         ensures { λ r. ⌜ r .0 ≡ partsOfMetres (self .0) ⌝ }
@@ -187,6 +208,12 @@ impl Degrees {
 
 impl Minute {
     pub const LAST: u32 = 16777215;
+
+    // A tendency is the change in so many minutes.
+    pub const THREE_HOURS: u32 = 180;
+
+    // And so many lie strictly between their ends.
+    pub const BETWEEN: u32 = Self::THREE_HOURS - 1;
 
     // Whether n is a minute.
     pub fn holds(n: u32) -> bool

@@ -8,12 +8,16 @@ use Rattle.number.specs.Refusal.{Answer, refused, given}
 use Rattle.settings.specs.Settings.{checkedAs}
 use Rattle.settings.specs.declared.Checked.{Checked}
 use Rattle.settings.specs.declared.Checked.the-variants.{Good, OutsideLimits, CertificateBroken}
+use Rattle.settings.proofs.number.Reads as number
 use Rattle.settings.proofs.Height.holds.Reads as height
 use Rattle.settings.proofs.SeaLevelDifference.holds.Reads as difference
 use Rattle.settings.proofs.TemperatureCoefficient.holds.Reads as coefficient
 use Rattle.settings.proofs.PsychrometerCoefficient.holds.Reads as psychrometer
 use Rattle.settings.proofs.Correction.holds.Reads as correction
 use Rattle.settings.proofs.check.Reads as check
+
+pub single-number : Single number.Post
+single-number κs a r r′ s s′ p q = p ∙ sym q
 
 pub single-height : Single height.Post
 single-height κs a r r′ s s′ p q = p ∙ sym q

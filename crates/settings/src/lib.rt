@@ -3,6 +3,7 @@ ghost use mathlib.Core.Path.{_≡_};
 ghost use mathlib.Core.Bool.{Bool, true, false, _&&_};
 ghost use Prim.Native.Nat.{ℕ, _+_, _-_, _≤_, _<_};
 ghost use lib.ListN.{getD};
+ghost use Rattle.number.specs.Refusal.{numberIn};
 ghost use Rattle.quantity.specs.Limits.{inside};
 ghost use Rattle.settings.specs.Settings.{height, difference, coefficient, psychrometer, correction, every, pointAt, pointHolds, rises, certificateHolds, othersHold, checked, checkedAs};
 use number::Kept;
@@ -58,6 +59,17 @@ pub enum Checked {
     OutsideLimits,
     // 10
     CertificateBroken,
+}
+
+// Document 01's number of what settings come to, or 0 for good ones.
+pub fn number(c: Checked) -> u32
+    ensures { λ n. ⌜ n ≡ numberIn (checkedAs c) ⌝ }
+{
+    match c {
+        Checked::Good => 0,
+        Checked::OutsideLimits => 9,
+        Checked::CertificateBroken => 10,
+    }
 }
 
 impl Height {

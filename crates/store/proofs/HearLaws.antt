@@ -1,6 +1,6 @@
 -- From what the window answers to what the store answers, and what the block then holds. Assumes nothing.
 use mathlib.Core.Path.{_≡_, refl, sym, ap, _∙_}
-use mathlib.Core.Bool.{Bool, true, false}
+use mathlib.Core.Bool.{Bool, true, false, cond}
 use mathlib.Core.List.{List}
 use Prim.Native.Nat.{ℕ}
 use Rattle.number.specs.Refusal.{refused, given}
@@ -9,12 +9,12 @@ use Rattle.message.specs.Receive.{Entry, received}
 use Rattle.wire.specs.declared.MessageRefusal.{MessageRefusal}
 use Rattle.window.specs.Window.{Taken}
 use Rattle.cell.specs.Cells.{cellOf}
-use Rattle.block.specs.Words.{unitOf, windowOf, replaced}
-use Rattle.store.specs.Block.{isLater, heardBy, Keeps, Hears}
+use Rattle.block.specs.Words.{isStore, unitOf, windowOf, replaced}
+use Rattle.store.specs.Block.{isLater, hearing, heardBy, Keeps, Hears}
 use Rattle.store.specs.declared.Hearing.{Hearing}
-use Rattle.store.specs.declared.Hearing.the-variants.{Heard, Refused, NotLater}
+use Rattle.store.specs.declared.Hearing.the-variants.{Heard, Refused, NotLater, NoStore}
 use Rattle.block.proofs.BlockLaws.{put-back}
-use Rattle.store.proofs.HearingLaws.{hearing-refused, hearing-given}
+use Rattle.store.proofs.HearingLaws.{hears-nothing, hearing-refused, hearing-given}
 
 -- ---- one entry
 
@@ -40,16 +40,22 @@ module _ (s : List ℕ) (e : Entry) (c t v : ℕ) (w : List ℕ) (r : Bool) (p :
 
 -- ---- a message
 
-pub hears-refused : (s m : List ℕ) (r : MessageRefusal) → received (unitOf s) m ≡ refused (numberOf r) → Hears s s m (Refused r)
+pub hears-unopened : (s m : List ℕ) → isStore s ≡ false → Hears s s m NoStore
 unfolding heardBy
-hears-refused s m r e =
-    let h = hearing-refused s m (numberOf r) e in
-    record { answer = rw h; block = rw h }
+hears-unopened s m is = let h = hears-nothing s m is in record { answer = rw h; block = rw h }
 
-pub hears-kept : (s s′ m : List ℕ) (e : Entry) (h : Hearing) → received (unitOf s) m ≡ given e → Keeps s s′ e h → Hears s s′ m h
-unfolding heardBy
-hears-kept s s′ m e h g k = go (isLater s e) refl
-  where
-    go : (b : Bool) → isLater s e ≡ b → Hears s s′ m h
-    go true l = let a = hearing-given s m e g in record { answer = rw (a, l) (k .answer ∙ rw l); block = rw (a, l) (k .block ∙ rw l) }
-    go false l = let a = hearing-given s m e g in record { answer = rw (a, l) (k .answer ∙ rw l); block = rw (a, l) (k .block ∙ rw l) }
+module _ (s m : List ℕ) (is : isStore s ≡ true) where
+  pub hears-refused : (r : MessageRefusal) → received (unitOf s) m ≡ refused (numberOf r) → Hears s s m (Refused r)
+  unfolding heardBy
+  hears-refused r e = let h = hearing-refused s m is (numberOf r) e in record { answer = rw h; block = rw h }
+
+  pub hears-kept : (s′ : List ℕ) (e : Entry) (h : Hearing) → received (unitOf s) m ≡ given e → Keeps s s′ e h → Hears s s′ m h
+  unfolding heardBy
+  hears-kept s′ e h g k = go (isLater s e) refl
+    where
+      a : hearing s m ≡ cond (isLater s e) (given e) (refused 8)
+      a = hearing-given s m is e g
+
+      go : (b : Bool) → isLater s e ≡ b → Hears s s′ m h
+      go true l = record { answer = rw (a, l) (k .answer ∙ rw l); block = rw (a, l) (k .block ∙ rw l) }
+      go false l = record { answer = rw (a, l) (k .answer ∙ rw l); block = rw (a, l) (k .block ∙ rw l) }

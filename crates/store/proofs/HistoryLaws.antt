@@ -11,9 +11,8 @@ use lib.Dec.{eqb, leb, lit<}
 use lib.ListN.{getD, take, length}
 use lib.Seq.{getD-take}
 use borrow.Author.Tests.{leb-true, leb-false, eqb-true, lt-ltb, le-leb, lt-leb, eq-eqb, ne-eqb}
-use Rattle.number.specs.Refusal.{Answer, refused, given}
+use Rattle.number.specs.Refusal.{Answer, refused, given, answer}
 use Rattle.quantity.specs.declared.BarometerUnit.{BarometerUnit}
-use Rattle.quantity.specs.declared.BarometerUnit.the-variants.{Hectopascals, Millimetres}
 use Rattle.message.specs.Receive.{Entry, received}
 use Rattle.settings.specs.Settings.{checked}
 use Rattle.settings.specs.declared.Settings.{Settings}
@@ -27,14 +26,14 @@ use Rattle.window.proofs.KeptLaws.{absent-kept, length-after, next-after, prese
 use Rattle.cell.specs.Cells.{CHANNELS}
 use Rattle.block.specs.Layout.{SETTINGS, WORDS}
 use Rattle.cell.specs.Cells.{cellOf, entryIn}
-use Rattle.block.specs.Words.{opened, unitOf, windowOf}
-use Rattle.store.specs.Block.{isLater, hearing, kept, heardBy, recallIn, recallOf}
+use Rattle.block.specs.Words.{opened, isStore, unitOf, windowOf}
+use Rattle.store.specs.Block.{entryOfBytes, isLater, hearTests, hearing, kept, heardBy, recallIn, recallOf}
 use Rattle.cell.specs.Cells.{Recall, absent, recalled}
 use Rattle.store.specs.History.{nextOf, grown, history, lookup, remembered, isPresent, Remembers, store-of}
 use Rattle.cell.proofs.CellLaws.{Back, received-back}
 use Rattle.block.proofs.BlockLaws.{window-long, replaced-long, here, beside, settings-stay}
-use Rattle.block.proofs.OpenedLaws.{opened-long, opened-unit, opened-next}
-use Rattle.store.proofs.HearingLaws.{hearing-refused, hearing-given, heard-refused, heard-given}
+use Rattle.block.proofs.OpenedLaws.{opened-long, opened-is-store, opened-unit, opened-next}
+use Rattle.store.proofs.HearingLaws.{store-hears, hearing-refused, hearing-given, heard-refused, heard-given}
 
 -- ---- histories
 
@@ -153,10 +152,11 @@ means s u M c l r = record {
   cells = λ j. sym (recall-is s u c j (r .unit) l) ∙ r .cells c l j;
 }
 
-remembers : (s : List ℕ) (u : BarometerUnit) (M : List (List ℕ)) → length s ≡ WORDS → unitOf s ≡ u
+remembers : (s : List ℕ) (u : BarometerUnit) (M : List (List ℕ)) → length s ≡ WORDS → isStore s ≡ true → unitOf s ≡ u
     → ((c : ℕ) → c < CHANNELS → Means u c (windowOf c s) (history u c M)) → Remembers s u M
-remembers s u M long unit k = record {
+remembers s u M long is unit k = record {
   long = long;
+  is-store = is;
   unit = unit;
   newest = λ c l. k c l .newest;
   bits = λ c l. k c l .bits;
@@ -166,7 +166,7 @@ remembers s u M long unit k = record {
 pub opened-remembers : (g : Settings) → checked g ≡ given tt → Remembers (opened g) (g .unit) []
 unfolding history
 opened-remembers g good =
-    remembers (opened g) (g .unit) [] (opened-long g) (opened-unit g)
+    remembers (opened g) (g .unit) [] (opened-long g) (opened-is-store g) (opened-unit g)
     (λ c l. means-nothing (g .unit) c (windowOf c (opened g)) (opened-next g good c l))
 
 -- a message that nothing is kept of
@@ -174,20 +174,18 @@ unchanged : (s : List ℕ) (u : BarometerUnit) (M : List (List ℕ)) (m : List �
     → ((c : ℕ) → history u c (m ∷ M) ≡ history u c M) → heardBy s m ≡ s → Remembers (heardBy s m) u (m ∷ M)
 unchanged s u M m r same stays =
     subst (λ (x : List ℕ). Remembers x u (m ∷ M)) (sym stays)
-    (remembers s u (m ∷ M) (r .long) (r .unit) (λ c l. subst (Means u c (windowOf c s)) (sym (same c)) (means s u M c l r)))
+    (remembers s u (m ∷ M) (r .long) (r .is-store) (r .unit) (λ c l. subst (Means u c (windowOf c s)) (sym (same c)) (means s u M c l r)))
 
-unit-stays : (s t : List ℕ) → take SETTINGS t ≡ take SETTINGS s → unitOf t ≡ unitOf s
-unit-stays s t e = ap (λ (n : ℕ). cond (eqb n 0) Hectopascals Millimetres) same
-  where
-    same : getD t 0 0 ≡ getD s 0 0
-    same = sym (getD-take SETTINGS t 0 0 (lit< tt)) ∙ ap (λ (l : List ℕ). getD l 0 0) e ∙ getD-take SETTINGS s 0 0 (lit< tt)
+first-stays : (s t : List ℕ) → take SETTINGS t ≡ take SETTINGS s → getD t 0 0 ≡ getD s 0 0
+first-stays s t e = sym (getD-take SETTINGS t 0 0 (lit< tt)) ∙ ap (λ (l : List ℕ). getD l 0 0) e ∙ getD-take SETTINGS s 0 0 (lit< tt)
 
 -- a message that is kept
 changed : (s : List ℕ) (u : BarometerUnit) (M : List (List ℕ)) (m : List ℕ) (e : Entry) → Remembers s u M → received u m ≡ given e
     → nextOf (history u (e .channel) M) ≤ e .minute → Remembers (kept s e) u (m ∷ M)
 changed s u M m e r g l =
     remembers (kept s e) u (m ∷ M) (replaced-long s (e .channel) w (r .long) lc long)
-    (unit-stays s (kept s e) (settings-stay s (e .channel) w (r .long) lc long) ∙ r .unit)
+    (ap (λ (n : ℕ). isStore (n ∷ [])) first ∙ r .is-store)
+    (ap (λ (n : ℕ). unitOf (n ∷ [])) first ∙ r .unit)
     (λ c k. go c k (ℕ-discrete c (e .channel)))
   where
     back : Back u e × (e .channel < CHANNELS)
@@ -204,6 +202,9 @@ changed s u M m e r g l =
 
     long : length w ≡ WINDOW
     long = length-after (windowOf (e .channel) s) (e .minute) (cellOf e) before ∙ before
+
+    first : getD (kept s e) 0 0 ≡ getD s 0 0
+    first = first-stays s (kept s e) (settings-stay s (e .channel) w (r .long) lc long)
 
     own : Means u (e .channel) (windowOf (e .channel) (kept s e)) (history u (e .channel) (m ∷ M))
     own =
@@ -224,9 +225,13 @@ changed s u M m e r g l =
         )
         (means s u M c k r)
 
-takes-is : (w : List ℕ) (t : ℕ) → length w ≡ WINDOW → takes w t ≡ leb (next w) t
+-- "A message must be later than its channel's newest": as the block finds it, and by the messages.
+pub later-is : (s : List ℕ) (u : BarometerUnit) (M : List (List ℕ)) → Remembers s u M → (e : Entry) → e .channel < CHANNELS
+    → isLater s e ≡ leb (nextOf (history u (e .channel) M)) (e .minute)
 unfolding takes
-takes-is w t e = rw (eq-eqb (length w) WINDOW e)
+later-is s u M r e l =
+    rw (eq-eqb (length (windowOf (e .channel) s)) WINDOW (window-long s (e .channel) (r .long) l))
+    (ap (λ (n : ℕ). leb n (e .minute)) (r .newest (e .channel) l))
 
 pub heard-remembers : (s : List ℕ) (u : BarometerUnit) (M : List (List ℕ)) (m : List ℕ) → Remembers s u M → Remembers (heardBy s m) u (m ∷ M)
 heard-remembers s u M m r = go (received u m) refl
@@ -234,16 +239,11 @@ heard-remembers s u M m r = go (received u m) refl
     seen : (a : Answer ℕ Entry) → received u m ≡ a → received (unitOf s) m ≡ a
     seen a g = subst (λ (v : BarometerUnit). received v m ≡ a) (sym (r .unit)) g
 
-    is-later : (e : Entry) → e .channel < CHANNELS → isLater s e ≡ leb (nextOf (history u (e .channel) M)) (e .minute)
-    is-later e l =
-        takes-is (windowOf (e .channel) s) (e .minute) (window-long s (e .channel) (r .long) l)
-        ∙ ap (λ (n : ℕ). leb n (e .minute)) (r .newest (e .channel) l)
-
     hears : (e : Entry) → received u m ≡ given e → (b : Bool) → leb (nextOf (history u (e .channel) M)) (e .minute) ≡ b
         → hearing s m ≡ cond b (given e) (refused 8)
     hears e g b t =
-        hearing-given s m e (seen (given e) g)
-        ∙ ap (λ (x : Bool). cond x (given e) (refused 8)) (is-later e (received-back u m e g .1) ∙ t)
+        hearing-given s m (r .is-store) e (seen (given e) g)
+        ∙ ap (λ (x : Bool). cond x (given e) (refused 8)) (later-is s u M r e (received-back u m e g .1) ∙ t)
 
     by-time : (e : Entry) → received u m ≡ given e → (b : Bool) → leb (nextOf (history u (e .channel) M)) (e .minute) ≡ b
         → Remembers (heardBy s m) u (m ∷ M)
@@ -258,7 +258,7 @@ heard-remembers s u M m r = go (received u m) refl
             subst (λ (d : ℕ). e .minute < nextOf (history u d M)) p (leb-false (nextOf (history u (e .channel) M)) (e .minute) t)
 
     go : (a : Answer ℕ Entry) → received u m ≡ a → Remembers (heardBy s m) u (m ∷ M)
-    go (refused n) g = unchanged s u M m r (λ c. history-step u c M m g) (heard-refused s m n (hearing-refused s m n (seen (refused n) g)))
+    go (refused n) g = unchanged s u M m r (λ c. history-step u c M m g) (heard-refused s m n (hearing-refused s m (r .is-store) n (seen (refused n) g)))
     go (given e) g = by-time e g (leb (nextOf (history u (e .channel) M)) (e .minute)) refl
 
 -- ---- the store
@@ -266,3 +266,12 @@ heard-remembers s u M m r = go (received u m) refl
 pub store-remembers : (g : Settings) → checked g ≡ given tt → (M : List (List ℕ)) → Remembers (store-of g M) (g .unit) M
 store-remembers g good [] = opened-remembers g good
 store-remembers g good (m ∷ M) = heard-remembers (store-of g M) (g .unit) M m (store-remembers g good M)
+
+-- A block that was opened is a store, and stays one whatever is sent.
+pub store-is-open : (g : Settings) → checked g ≡ given tt → (M : List (List ℕ)) → isStore (store-of g M) ≡ true
+store-is-open g good M = store-remembers g good M .is-store
+
+-- So it puts every message to the tests of document 01.
+pub open-hears : (g : Settings) → checked g ≡ given tt → (M : List (List ℕ)) (m : List ℕ)
+    → hearing (store-of g M) m ≡ answer (hearTests (store-of g M) m) (entryOfBytes (store-of g M) m)
+open-hears g good M m = store-hears (store-of g M) m (store-is-open g good M)

@@ -1,17 +1,41 @@
--- The store tests in number order: a message is refused n of 1 to 8 exactly when reason n holds and none of a smaller number does.
--- Assumes nothing.
-use mathlib.Core.Path.{_≡_}
-use mathlib.Core.List.{List}
+-- A store tests in number order: a message is refused n of 1 to 8 exactly when reason n holds and none of a smaller number does. And
+-- a block answers that it is no store exactly when it is none. Assumes nothing.
+use mathlib.Core.Path.{_≡_, refl, sym, subst}
+use mathlib.Core.Bool.{Bool, true, false, not, _&&_}
+use mathlib.Core.List.{List, [], _∷_}
 use mathlib.Core.Logic.{_↔_}
-use Prim.Native.Nat.{ℕ}
-use Rattle.number.specs.Refusal.{Answer, refused, given, Holds, NoneBelow}
+use Prim.Native.Nat.{ℕ, zero, suc}
+use lib.Dec.{T, eqb, T-not}
+use lib.Ieee.Fits.{and-l, and-r}
+use borrow.Author.Tests.{eq-eqb}
+use Rattle.number.specs.Refusal.{Test, Answer, refused, given, answer, HoldsAt, Holds, NoneBelow}
 use Rattle.number.proofs.RefusalLaws.{in-number-order, given-exactly}
+use Rattle.block.specs.Layout.{NO_STORE}
+use Rattle.block.specs.Words.{isStore}
 use Rattle.store.specs.Block.{entryOfBytes, hearTests, hearing}
+use Rattle.store.proofs.HearingLaws.{store-hears, hears-nothing}
 
-pub hearing-refused-exactly : (s m : List ℕ) (n : ℕ) → (hearing s m ≡ refused n) ↔ (Holds (hearTests s m) n × NoneBelow (hearTests s m) n)
-unfolding hearing
-hearing-refused-exactly s m n = in-number-order (entryOfBytes s m) (hearTests s m) tt n
+module _ (s m : List ℕ) (is : isStore s ≡ true) where
+  pub hearing-refused-exactly : (n : ℕ) → (hearing s m ≡ refused n) ↔ (Holds (hearTests s m) n × NoneBelow (hearTests s m) n)
+  hearing-refused-exactly n = rw (store-hears s m is) (in-number-order (entryOfBytes s m) (hearTests s m) tt n)
 
-pub hearing-kept-exactly : (s m : List ℕ) → (hearing s m ≡ given (entryOfBytes s m)) ↔ ((n : ℕ) → Holds (hearTests s m) n → ⊥)
-unfolding hearing
-hearing-kept-exactly s m = given-exactly (entryOfBytes s m) (hearTests s m)
+  pub hearing-kept-exactly : (hearing s m ≡ given (entryOfBytes s m)) ↔ ((n : ℕ) → Holds (hearTests s m) n → ⊥)
+  hearing-kept-exactly = rw (store-hears s m is) (given-exactly (entryOfBytes s m) (hearTests s m))
+
+-- a number that none of the tests refuses with
+abbrev lacks : ℕ → List (Test ℕ) → Bool
+lacks n [] = true
+lacks n (t ∷ ts) = not (eqb (t .refusal) n) && lacks n ts
+
+never : (n : ℕ) (ts : List (Test ℕ)) → T (lacks n ts) → (place : ℕ) → HoldsAt ts place n → ⊥
+never n [] l place h = h
+never n (t ∷ ts) l zero h =
+    T-not (eqb (t .refusal) n) (and-l (not (eqb (t .refusal) n)) (lacks n ts) l) (subst T (sym (eq-eqb (t .refusal) n (h .1))) tt)
+never n (t ∷ ts) l (suc place) h = never n ts (and-r (not (eqb (t .refusal) n)) (lacks n ts) l) place h
+
+pub no-store-exactly : (s m : List ℕ) → (hearing s m ≡ refused NO_STORE) ↔ (isStore s ≡ false)
+no-store-exactly s m = (λ e. go e (isStore s) refl, hears-nothing s m)
+  where
+    go : hearing s m ≡ refused NO_STORE → (b : Bool) → isStore s ≡ b → isStore s ≡ false
+    go e true is = let held = hearing-refused-exactly s m is NO_STORE .0 e .0 in absurd (never NO_STORE (hearTests s m) tt (held .0) (held .1))
+    go e false is = is

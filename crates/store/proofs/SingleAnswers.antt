@@ -10,13 +10,18 @@ use Rattle.wire.specs.declared.MessageRefusal.{MessageRefusal}
 use Rattle.wire.specs.declared.MessageRefusal.the-variants.{NotSixteenBytes, NoSuchChannel, ByteNotZero, WetBulbNotWater, MinuteTooLate, NotFinite, OutsideLimits}
 use Rattle.settings.proofs.SingleAnswers.{case-of, case-back}
 use Rattle.cell.proofs.SingleAnswers.{recall-of, recall-back}
+use Rattle.block.specs.Layout.{NO_STORE}
 use Rattle.store.specs.Block.{heardAs}
 use Rattle.store.specs.declared.Hearing.{Hearing}
-use Rattle.store.specs.declared.Hearing.the-variants.{Heard, Refused, NotLater}
+use Rattle.store.specs.declared.Hearing.the-variants.{Heard, Refused, NotLater, NoStore}
+use Rattle.store.proofs.number.Reads as number
 use Rattle.store.proofs.«open».Reads as opening
 use Rattle.store.proofs.hear.Reads as hear
 use Rattle.store.proofs.recall.Reads as recall
 use Rattle.store.proofs.missing_minutes.Reads as missing-minutes
+
+pub single-number : Single number.Post
+single-number κs a r r′ s s′ p q = p ∙ sym q
 
 -- ---- open
 
@@ -29,7 +34,7 @@ single-open-left κs a r r′ s s′ p q = p .1 ∙ sym (q .1)
 -- ---- hear
 
 pub hearing-of : Answer ℕ (Unit {0}) → Hearing
-hearing-of (refused n) = cond (eqb n 8) NotLater (Refused (refusal n))
+hearing-of (refused n) = cond (eqb n 8) NotLater (cond (eqb n NO_STORE) NoStore (Refused (refusal n)))
 hearing-of (given a) = Heard
 
 pub hearing-back : (h : Hearing) → hearing-of (heardAs h) ≡ h
@@ -46,6 +51,7 @@ hearing-back (Refused r) = go r
     go NotFinite = refl
     go OutsideLimits = refl
 hearing-back NotLater = refl
+hearing-back NoStore = refl
 
 pub single-hear : Single hear.Post
 single-hear κs a r r′ s s′ p q = sym (hearing-back r) ∙ ap hearing-of (p .answer ∙ sym (q .answer)) ∙ hearing-back r′

@@ -1,4 +1,4 @@
--- What document 01 says of the store, in its words: of refused messages, of the channels beside each other, of absent minutes and
+-- What document 01 says of the store, in its words: of refused openings and messages, of the channels beside each other, of absent minutes and
 -- of the minutes that are kept. Each from the laws of hearing and of histories. Assumes nothing.
 use mathlib.Core.Path.{_≡_, refl, sym, ap, _∙_}
 use mathlib.Core.Bool.{Bool, true, false, _&&_, cond}
@@ -13,22 +13,30 @@ use Rattle.number.proofs.Sizes.{and-true}
 use Rattle.quantity.specs.declared.BarometerUnit.{BarometerUnit}
 use Rattle.wire.specs.Bytes.{channel}
 use Rattle.message.specs.Receive.{Entry, received}
+use Rattle.settings.specs.Settings.{checked}
+use Rattle.settings.specs.declared.Settings.{Settings}
 use Rattle.window.specs.Layout.{MINUTES, WINDOW}
 use Rattle.window.specs.Window.{present, accepted, absents}
 use Rattle.window.proofs.KeptLaws.{length-after}
 use Rattle.window.proofs.AbsentLaws.{absents-alike}
 use Rattle.cell.specs.Cells.{CHANNELS}
-use Rattle.block.specs.Layout.{SETTINGS, WORDS}
+use Rattle.block.specs.Layout.{SETTINGS, WORDS, NO_STORE}
 use Rattle.cell.specs.Cells.{cellOf}
-use Rattle.block.specs.Words.{unitOf, windowOf}
-use Rattle.store.specs.Block.{hearing, heardBy, absentOf}
+use Rattle.block.specs.Words.{isStore, unitOf, windowOf}
+use Rattle.store.specs.Block.{openedBy, hearing, heardBy, absentOf}
 use Rattle.cell.specs.Cells.{absent}
 use Rattle.store.specs.History.{nextOf, grown, history, belongs, of-channel, lookup, remembered, isPresent, Remembers}
 use Rattle.cell.proofs.ReceivedLaws.{received-long, received-channel}
 use Rattle.cell.proofs.CellLaws.{received-back}
 use Rattle.block.proofs.BlockLaws.{window-long, beside, settings-stay}
-use Rattle.store.proofs.HearingLaws.{hearing-was, heard-refused, heard-given}
+use Rattle.store.proofs.OpenLaws.{opens-not}
+use Rattle.store.proofs.HearingLaws.{hears-nothing, hearing-was, heard-refused, heard-given}
 use Rattle.store.proofs.HistoryLaws.{remembered-in, remembered-gone, remembered-step, grown-other, history-step}
+
+-- "a refused opening gives no store": a block that was none still hears nothing.
+pub refused-opening-gives-no-store : (s m : List ℕ) (g : Settings) (n : ℕ) → checked g ≡ refused n → isStore s ≡ false
+    → hearing (openedBy s g) m ≡ refused NO_STORE
+refused-opening-gives-no-store s m g n e is = hears-nothing (openedBy s g) m (ap isStore (sym (opens-not s g n e)) ∙ is)
 
 -- "A refused message changes nothing"
 pub refused-changes-nothing : (s m : List ℕ) (n : ℕ) → hearing s m ≡ refused n → heardBy s m ≡ s

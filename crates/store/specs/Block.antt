@@ -16,9 +16,10 @@ use Rattle.window.specs.Window as window
 use Rattle.window.specs.declared.Found.{Found}
 use Rattle.window.specs.declared.Found.the-variants.{Absent, Cell}
 use Rattle.cell.specs.Cells.{CHANNELS, cellOf, Recall, absent, cellSays}
-use Rattle.block.specs.Words.{opened, unitOf, windowOf, replaced}
+use Rattle.block.specs.Layout.{NO_STORE}
+use Rattle.block.specs.Words.{opened, isStore, unitOf, windowOf, replaced}
 use Rattle.store.specs.declared.Hearing.{Hearing}
-use Rattle.store.specs.declared.Hearing.the-variants.{Heard, Refused, NotLater}
+use Rattle.store.specs.declared.Hearing.the-variants.{Heard, Refused, NotLater, NoStore}
 
 -- A block after an opening with these settings: "a refused opening gives no store", and leaves the block as it was.
 abbrev pub isGiven : {A : Type 0} → Answer ℕ A → Bool
@@ -42,8 +43,13 @@ isLater s e = takes (windowOf (e .channel) s) (e .minute)
 abbrev pub hearTests : List ℕ → List ℕ → List (Test ℕ)
 hearTests s m = tests (unitOf s) m ++ (record { refusal = 8; holds = not (isLater s (entryOfBytes s m)) } ∷ [])
 
+-- "a refused opening gives no store": a block that no opening marked hears nothing.
+abbrev pub unopened : List ℕ → Test ℕ
+unopened s = record { refusal = NO_STORE; holds = not (isStore s) }
+
+-- What a message comes to: whether there is a store to hear it is tested first.
 unfoldable pub hearing : List ℕ → List ℕ → Answer ℕ Entry
-hearing s m = answer (hearTests s m) (entryOfBytes s m)
+hearing s m = answer (unopened s ∷ hearTests s m) (entryOfBytes s m)
 
 -- The block after a message: "A refused message changes nothing"; what is kept changes its channel's part alone.
 abbrev pub kept : List ℕ → Entry → List ℕ
@@ -70,12 +76,13 @@ recallOf s c m = cond (ltb c CHANNELS) (recallIn (unitOf s) c m (window.kept (wi
 unfoldable pub absentOf : List ℕ → ℕ → ℕ → ℕ
 absentOf s c m = cond (ltb c CHANNELS) (absents (present (windowOf c s)) m 179) 179
 
--- ---- document 01's number and values of each case
+-- ---- document 01's number and values of each case, and the number of a block that is no store
 
 abbrev pub heardAs : Hearing → Answer ℕ (Unit {0})
 heardAs Heard = given tt
 heardAs (Refused r) = refused (numberOf r)
 heardAs NotLater = refused 8
+heardAs NoStore = refused NO_STORE
 
 abbrev pub outcome : Answer ℕ Entry → Answer ℕ (Unit {0})
 outcome (refused n) = refused n

@@ -15,7 +15,7 @@ use Rattle.window.specs.Window.{next, present}
 use Rattle.cell.specs.Cells.{CHANNELS}
 use Rattle.block.specs.Layout.{WORDS}
 use Rattle.cell.specs.Cells.{Recall, absent, recalled}
-use Rattle.block.specs.Words.{opened, unitOf, windowOf}
+use Rattle.block.specs.Words.{opened, isStore, unitOf, windowOf}
 use Rattle.store.specs.Block.{heardBy, recallOf}
 
 -- The minute after the newest that was accepted; 0 where none was.
@@ -54,9 +54,10 @@ abbrev pub isPresent : Recall → Bool
 isPresent absent = false
 isPresent (recalled e) = true
 
--- The block holds what the messages M mean, on a station whose barometer reads in the unit u.
+-- The block is a store and holds what the messages M mean, on a station whose barometer reads in the unit u.
 pub record Remembers (s : List ℕ) (u : BarometerUnit) (M : List (List ℕ)) : Type 0 where
   pub long : length s ≡ WORDS
+  pub is-store : isStore s ≡ true
   pub unit : unitOf s ≡ u
   pub newest : (c : ℕ) → c < CHANNELS → next (windowOf c s) ≡ nextOf (history u c M)
   pub bits : (c : ℕ) → c < CHANNELS → (j : ℕ) → present (windowOf c s) j ≡ isPresent (remembered (history u c M) j)

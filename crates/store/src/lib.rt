@@ -2,12 +2,14 @@
 ghost use mathlib.Core.Path.{_≡_};
 ghost use Prim.Native.Nat.{ℕ, _<_};
 ghost use lib.ListN.{length};
+ghost use Rattle.number.specs.Refusal.{numberIn};
 ghost use Rattle.settings.specs.Settings.{checked, checkedAs};
 ghost use Rattle.message.specs.Receive.{entryOf};
 ghost use Rattle.cell.specs.Cells.{CHANNELS, recalledAs};
 ghost use Rattle.block.specs.Layout.{WORDS};
 ghost use Rattle.block.specs.Words.{windowOf};
-ghost use Rattle.store.specs.Block.{openedBy, recallOf, absentOf, Keeps, Hears};
+ghost use Rattle.store.specs.Block.{openedBy, heardAs, recallOf, absentOf, Keeps, Hears};
+use block::NO_STORE;
 use block::SETTINGS;
 use block::Store;
 use cell::Recalled;
@@ -26,6 +28,20 @@ pub enum Hearing {
     Refused(MessageRefusal),
     // 8
     NotLater,
+    // none of document 01's: the block is no store
+    NoStore,
+}
+
+// Document 01's number of what hearing comes to: 0 for what is heard, and `NO_STORE` from a block that is no store.
+pub fn number(h: Hearing) -> u32
+    ensures { λ n. ⌜ n ≡ numberIn (heardAs h) ⌝ }
+{
+    match h {
+        Hearing::Heard => 0,
+        Hearing::Refused(r) => wire::number(r),
+        Hearing::NotLater => 8,
+        Hearing::NoStore => NO_STORE,
+    }
 }
 
 // ---- opening
@@ -76,22 +92,19 @@ fn keep(store: &mut [u64], minute: u32, r: Reading) -> Hearing
     Hearing::NotLater
 }
 
-fn hear_in(store: &mut [u64], bytes: &[u8]) -> Hearing
-    requires { ⌜ length (now store) ≡ WORDS ⌝ }
+// Hears a message: it is kept, or the first of refusals 1 to 8 that holds is given and the block stays as it was. So does a block
+// that is no store, which hears nothing.
+pub fn hear(store: &mut Store, bytes: &[u8]) -> Hearing
     ensures { λ r. ⌜ Hears (now (store .entry)) (now (store .exit)) (now (bytes .entry)) r ⌝ }
 {
-    let unit = block::unit_in(store[0]);
+    if !block::is_store(store) {
+        return Hearing::NoStore;
+    }
+    let unit = block::unit(store);
     match message::receive(bytes, unit) {
         Received::Refused(r) => Hearing::Refused(r),
         Received::At(minute, r) => keep(store, minute.0, r),
     }
-}
-
-// Hears a message: it is kept, or the first of refusals 1 to 8 that holds is given and the block stays as it was.
-pub fn hear(store: &mut Store, bytes: &[u8]) -> Hearing
-    ensures { λ r. ⌜ Hears (now (store .entry)) (now (store .exit)) (now (bytes .entry)) r ⌝ }
-{
-    hear_in(store, bytes)
 }
 
 // ---- asking

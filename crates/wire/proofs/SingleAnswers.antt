@@ -1,5 +1,5 @@
--- The contract of `decode` allows a single answer: document 01's number and values tell every case apart, since from them the
--- case can be made again. Assumes nothing.
+-- Each public contract of this crate allows a single answer. Of `decode`: document 01's number and values tell every case apart,
+-- since from them the case can be made again. Assumes nothing.
 use mathlib.Core.Path.{_≡_, refl, sym, ap, _∙_}
 use mathlib.Core.Bool.{cond}
 use Prim.Native.Nat.{ℕ}
@@ -11,7 +11,11 @@ use Rattle.wire.specs.declared.MessageRefusal.{MessageRefusal}
 use Rattle.wire.specs.declared.MessageRefusal.the-variants.{NotSixteenBytes, NoSuchChannel, ByteNotZero, WetBulbNotWater, MinuteTooLate, NotFinite, OutsideLimits}
 use Rattle.wire.specs.declared.Decoded.{Decoded}
 use Rattle.wire.specs.declared.Decoded.the-variants as decoding
+use Rattle.wire.proofs.number.Reads as number
 use Rattle.wire.proofs.decode.Reads as decode
+
+pub single-number : Single number.Post
+single-number κs a r r′ s s′ p q = p ∙ sym q
 
 -- ---- the refusal of a number
 

@@ -6,7 +6,7 @@ ghost use lib.Ieee.{binary32, ofBits};
 ghost use Rattle.wire.specs.Bytes.{word, stray, notWater};
 ghost use Rattle.wire.specs.Finite.{isFinite, Finite};
 ghost use Rattle.wire.specs.Kinds.{kind};
-ghost use Rattle.wire.specs.Decode.{decoded, decodedAs};
+ghost use Rattle.wire.specs.Decode.{numberOf, decoded, decodedAs};
 use quantity::Minute;
 
 // Why a message is refused, in the order in which it is tested.
@@ -25,6 +25,21 @@ pub enum MessageRefusal {
     NotFinite,
     // 7
     OutsideLimits,
+}
+
+// Document 01's number of a refusal.
+pub fn number(r: MessageRefusal) -> u32
+    ensures { λ n. ⌜ n ≡ numberOf r ⌝ }
+{
+    match r {
+        MessageRefusal::NotSixteenBytes => 1,
+        MessageRefusal::NoSuchChannel => 2,
+        MessageRefusal::ByteNotZero => 3,
+        MessageRefusal::WetBulbNotWater => 4,
+        MessageRefusal::MinuteTooLate => 5,
+        MessageRefusal::NotFinite => 6,
+        MessageRefusal::OutsideLimits => 7,
+    }
 }
 
 // Two values that travel together: a speed and an angle.

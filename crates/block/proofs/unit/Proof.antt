@@ -1,16 +1,17 @@
 -- `unit` meets its contract. Assumes nothing.
+use borrow.Author.Tests.{eq-eqb, ne-eqb}
 use borrow.Author.Needs.{needs}
 use Rattle.block.proofs.unit.Statement.{statement}
 use Rattle.block.proofs.unit.Tie as tie
 
-element-copy-out-unit-in : tie.Need-element-copy-out-unit-in
-element-copy-out-unit-in c = search needs
-
-unit-in-requires : tie.Need-unit-in-requires
-unit-in-requires c κs = search needs
+element-copy-out-if1 : tie.Need-element-copy-out-if1
+element-copy-out-if1 c = search needs
 
 returns : tie.Need-returns
-returns c = search needs
+returns c = rw (eq-eqb _ _ (c .if1 .taken))
+
+returns-2 : tie.Need-returns-2
+returns-2 c = rw (ne-eqb _ _ (c .if1 .left))
 
 pub unit-spec : {M : Type 1} → statement M
-unit-spec = tie.close (tie.spec element-copy-out-unit-in unit-in-requires returns)
+unit-spec = tie.close (tie.spec element-copy-out-if1 returns returns-2)
