@@ -7,29 +7,26 @@ use native.Mathlib.Omega.{arith}
 use lib.Dec.{leb, lit<}
 use lib.Ieee.{ofBits}
 use lib.IntN.{pos}
-use lib.ListN.{length}
-use borrow.Author.Tests.{eq-eqb}
 use Rattle.number.specs.Round.{nearest}
 use Rattle.number.specs.Refusal.{Answer, refused, given, answer}
+use Rattle.quantity.specs.Limits.{minutesBetween}
 use Rattle.quantity.specs.declared.BarometerUnit.{BarometerUnit}
 use Rattle.quantity.specs.declared.BarometerUnit.the-variants.{Hectopascals}
 use Rattle.message.specs.Value.{toWhole}
 use Rattle.message.specs.Receive.{hPa, °C, none, Entry, received}
 use Rattle.settings.specs.Settings.{checked}
 use Rattle.settings.specs.declared.Settings.{Settings}
-use Rattle.window.specs.Layout.{WINDOW}
-use Rattle.window.specs.Window.{next, takes, absents}
+use Rattle.window.specs.Window.{absents}
 use Rattle.cell.specs.Cells.{CHANNELS}
-use Rattle.block.specs.Words.{opened, windowOf}
-use Rattle.store.specs.Block.{openedBy, isGiven, isLater, heardAs, outcome, Hears, recallOf, absentOf}
+use Rattle.block.specs.Words.{opened}
+use Rattle.store.specs.Block.{openedBy, isGiven, heardAs, outcome, Hears, recallOf, absentOf}
 use Rattle.cell.specs.Cells.{Recall}
 use Rattle.store.specs.History.{nextOf, history, remembered, isPresent, Remembers}
 use Rattle.store.specs.declared.Hearing.{Hearing}
-use Rattle.block.proofs.BlockLaws.{window-long}
 use Rattle.cell.proofs.CellLaws.{received-back}
 use Rattle.store.proofs.HearingLaws.{hearing-given}
 use Rattle.store.proofs.OpenLaws.{opens}
-use Rattle.store.proofs.HistoryLaws.{opened-remembers, heard-remembers}
+use Rattle.store.proofs.HistoryLaws.{opened-remembers, heard-remembers, later-is}
 use Rattle.store.proofs.StoreTheorems.{absent-count}
 use Rattle.gap.specs.Watch.{sent, to-100, to-280, to-400, pressureIn, temperatureIn}
 
@@ -40,10 +37,6 @@ pub opened-well : (s : List ℕ) (g : Settings) → checked g ≡ given tt → g
 opened-well s g good u =
     subst (λ (x : List ℕ). Remembers x Hectopascals []) (opens s g good)
     (subst (λ (v : BarometerUnit). Remembers (opened g) v []) u (opened-remembers g good))
-
-takes-is : (w : List ℕ) (t : ℕ) → length w ≡ WINDOW → takes w t ≡ leb (next w) t
-unfolding takes
-takes-is w t e = rw (eq-eqb (length w) WINDOW e)
 
 -- After the messages M: "A message must be later than its channel's newest."
 abbrev isLaterThan : List (List ℕ) → Answer ℕ Entry → Bool
@@ -62,17 +55,8 @@ module _ {s s′ m : List ℕ} {h : Hearing} {M : List (List ℕ)} (heard : Hear
       go (given e) g t =
           ap isGiven (heard .answer)
           ∙ ap (λ (a : Answer ℕ Entry). isGiven (outcome a))
-          (hearing-given s m e (subst (λ (v : BarometerUnit). received v m ≡ given e) (sym (r .unit)) g)
-          ∙ ap (λ (x : Bool). cond x (given e) (refused 8)) later)
-        where
-          low : e .channel < CHANNELS
-          low = received-back Hectopascals m e g .1
-
-          later : isLater s e ≡ true
-          later =
-              takes-is (windowOf (e .channel) s) (e .minute) (window-long s (e .channel) (r .long) low)
-              ∙ ap (λ (n : ℕ). leb n (e .minute)) (r .newest (e .channel) low)
-              ∙ t
+          (hearing-given s m (r .is-store) e (subst (λ (v : BarometerUnit). received v m ≡ given e) (sym (r .unit)) g)
+          ∙ ap (λ (x : Bool). cond x (given e) (refused 8)) (later-is s Hectopascals M r e (received-back Hectopascals m e g .1) ∙ t))
 
   pub goes-on : Remembers s′ Hectopascals (m ∷ M)
   goes-on = subst (λ (x : List ℕ). Remembers x Hectopascals (m ∷ M)) (sym (heard .block)) (heard-remembers s Hectopascals M m r)
@@ -139,8 +123,8 @@ module _ {s : List ℕ} {M : List (List ℕ)} {H : List Entry} (r : Remembers s 
   recalls : (j : ℕ) → recallOf s c j ≡ remembered H j
   recalls j = r .cells c l j ∙ ap (λ (K : List Entry). remembered K j) e
 
-  counts : (t : ℕ) → absentOf s c t ≡ absents (λ j. isPresent (remembered H j)) t 179
-  counts t = absent-count s Hectopascals M c t r l ∙ ap (λ (K : List Entry). absents (λ j. isPresent (remembered K j)) t 179) e
+  counts : (t : ℕ) → absentOf s c t ≡ absents (λ j. isPresent (remembered H j)) t minutesBetween
+  counts t = absent-count s Hectopascals M c t r l ∙ ap (λ (K : List Entry). absents (λ j. isPresent (remembered K j)) t minutesBetween) e
 
 -- "Barometer and thermometer at 100 and 280 only: tendency at 280, 179 absent."
 module _ {s : List ℕ} (r : Remembers s Hectopascals to-280) where

@@ -44,6 +44,7 @@ fn is_heard(h: Hearing) -> bool
         Hearing::Heard => true,
         Hearing::Refused(_) => false,
         Hearing::NotLater => false,
+        Hearing::NoStore => false,
     }
 }
 

@@ -29,15 +29,9 @@ fn say_number(n: Number) {
 }
 
 fn say_refusal(r: MessageRefusal) {
-    match r {
-        MessageRefusal::NotSixteenBytes => say(b"refused 1\n"),
-        MessageRefusal::NoSuchChannel => say(b"refused 2\n"),
-        MessageRefusal::ByteNotZero => say(b"refused 3\n"),
-        MessageRefusal::WetBulbNotWater => say(b"refused 4\n"),
-        MessageRefusal::MinuteTooLate => say(b"refused 5\n"),
-        MessageRefusal::NotFinite => say(b"refused 6\n"),
-        MessageRefusal::OutsideLimits => say(b"refused 7\n"),
-    }
+    say(b"refused ");
+    say_natural(wire::number(r));
+    say(b"\n");
 }
 
 fn say_one(channel: u32, minute: u32, first: Number) {

@@ -8,7 +8,7 @@ use Prim.Native.Nat.{ℕ, zero, suc}
 use lib.Dec.{T, eqb, T-not}
 use lib.Ieee.Fits.{and-l, and-r}
 use borrow.Author.Tests.{eq-eqb}
-use Rattle.number.specs.Refusal.{Test, Answer, refused, given, answer, HoldsAt, Holds, NoneBelow}
+use Rattle.number.specs.Refusal.{Test, refused, given, HoldsAt, Holds, NoneBelow}
 use Rattle.number.proofs.RefusalLaws.{in-number-order, given-exactly}
 use Rattle.block.specs.Layout.{NO_STORE}
 use Rattle.block.specs.Words.{isStore}

@@ -10,6 +10,7 @@ use lib.ListN.{take, length}
 use borrow.Author.Tests.{leb-true, lt-ltb, eq-eqb, ne-eqb}
 use Rattle.number.specs.Refusal.{Answer, refused, given}
 use Rattle.number.proofs.Sizes.{and-true}
+use Rattle.quantity.specs.Limits.{minutesBetween}
 use Rattle.quantity.specs.declared.BarometerUnit.{BarometerUnit}
 use Rattle.wire.specs.Bytes.{channel}
 use Rattle.message.specs.Receive.{Entry, received}
@@ -184,8 +185,8 @@ module _ (e : Entry) (H : List Entry) where
 
 -- "the number of absent .. minutes among the 179 strictly between"
 pub absent-count : (s : List ℕ) (u : BarometerUnit) (M : List (List ℕ)) (c m : ℕ) → Remembers s u M → c < CHANNELS
-    → absentOf s c m ≡ absents (λ j. isPresent (remembered (history u c M) j)) m 179
+    → absentOf s c m ≡ absents (λ j. isPresent (remembered (history u c M) j)) m minutesBetween
 unfolding absentOf
 absent-count s u M c m r l =
     rw (lt-ltb c CHANNELS l)
-    (absents-alike (present (windowOf c s)) (λ j. isPresent (remembered (history u c M) j)) m 179 (λ j a b. r .bits c l j))
+    (absents-alike (present (windowOf c s)) (λ j. isPresent (remembered (history u c M) j)) m minutesBetween (λ j a b. r .bits c l j))

@@ -5,6 +5,7 @@ use mathlib.Core.List.{List, [], _∷_, _++_}
 use Prim.Native.Nat.{ℕ}
 use lib.Dec.{ltb}
 use Rattle.number.specs.Refusal.{Test, Answer, refused, given, answer}
+use Rattle.quantity.specs.Limits.{minutesBetween}
 use Rattle.quantity.specs.declared.BarometerUnit.{BarometerUnit}
 use Rattle.wire.specs.Bytes.{minute}
 use Rattle.wire.specs.Decode.{message, numberOf}
@@ -74,7 +75,7 @@ recallOf s c m = cond (ltb c CHANNELS) (recallIn (unitOf s) c m (window.kept (wi
 
 -- "the number of absent .. minutes among the 179 strictly between"
 unfoldable pub absentOf : List ℕ → ℕ → ℕ → ℕ
-absentOf s c m = cond (ltb c CHANNELS) (absents (present (windowOf c s)) m 179) 179
+absentOf s c m = cond (ltb c CHANNELS) (absents (present (windowOf c s)) m minutesBetween) minutesBetween
 
 -- ---- document 01's number and values of each case, and the number of a block that is no store
 

@@ -15,6 +15,7 @@ use block::Store;
 use cell::Recalled;
 use message::Reading;
 use message::Received;
+use quantity::Minute;
 use settings::Checked;
 use settings::Settings;
 use window::Found;
@@ -134,13 +135,13 @@ pub fn recall(store: &Store, channel: u32, minute: u32) -> Recalled
     }
 }
 
-// How many of a channel's 179 minutes strictly between minute - 180 and minute are absent.
+// How many of a channel's minutes strictly between minute - 180 and minute are absent.
 pub fn missing_minutes(store: &Store, channel: u32, minute: u32) -> u64
     ensures { λ r. ⌜ r ≡ absentOf (now (store .entry)) channel minute ⌝ }
 {
     if channel >= 6 {
-        return 179;
+        return Minute::BETWEEN as u64;
     }
     let c = channel as usize;
-    window::missed(window_of(store, c), minute, 179)
+    window::missed(window_of(store, c), minute, Minute::BETWEEN)
 }

@@ -1,5 +1,5 @@
 -- `hear` meets its contract: whether the block is a store, what the message comes to, and then whether it is later. Assumes nothing.
-use mathlib.Core.Path.{_≡_, sym, ap, _∙_}
+use mathlib.Core.Path.{sym, ap, _∙_}
 use borrow.Author.Tests.{not-true, not-false}
 use denote.Ref.{now}
 use Rattle.message.specs.Receive.{received, receivedAs, entryOf}
