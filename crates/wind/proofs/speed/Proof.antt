@@ -1,5 +1,5 @@
 -- `speed` meets its contract: the sum is a plain number, and each part of it fits. Assumes nothing.
-use Prim.Native.Nat.{_*_, _/_, _<_}
+use Prim.Native.Nat.{_/_, _<_}
 use native.Mathlib.Omega.{arith}
 use Rattle.wind.specs.Work.{tooMany}
 use Rattle.wind.proofs.SpeedLaws.{Products, products, million, million-small, cosine-most, nearest}
