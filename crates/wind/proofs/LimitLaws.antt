@@ -1,13 +1,11 @@
 -- What the limits say of the numbers. Assumes nothing.
-use mathlib.Core.Path.{_≡_, sym, _∙_}
+use mathlib.Core.Path.{_≡_}
 use mathlib.Core.Bool.{true, _&&_}
 use Prim.Native.Nat.{ℕ, _≤_}
 use lib.IntN.{pos, natAbs}
-use borrow.Author.Tests.{leb-true}
-use Rattle.number.specs.Whole.{within}
 use Rattle.number.proofs.Sizes.{and-true}
 use Rattle.quantity.specs.Limits.{inside, degrees, knots, metresPerSecond}
-use Rattle.quantity.proofs.LimitLaws.{from-nought}
+use Rattle.quantity.proofs.LimitLaws.{up-to}
 use Rattle.wind.specs.Answer.{withinLimits}
 
 -- neither speed is above its upper limit
@@ -20,6 +18,3 @@ speeds-most course ship apparent bow e =
     let two = and-true first (inside metresPerSecond (pos apparent)) three in
     let inner = and-true (inside degrees (pos course)) (inside knots (pos ship)) (two .0) in
     (up-to ship (natAbs (knots .high)) (inner .1), up-to apparent (natAbs (metresPerSecond .high)) (two .1))
-  where
-    up-to : (n high : ℕ) → within (pos 0) (pos high) (pos n) ≡ true → n ≤ high
-    up-to n high h = leb-true n high (sym (from-nought n high) ∙ h)

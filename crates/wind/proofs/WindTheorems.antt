@@ -6,14 +6,14 @@ use mathlib.Core.Bool.{true, false}
 use Prim.Native.Nat.{ℕ, zero, suc, _*_, _/_, _≤_, _<_, zero-le}
 use native.Mathlib.Omega.{arith}
 use lib.Dec.{le→leb}
-use lib.IntN.{pos}
+use lib.IntN.{pos, natAbs}
 use lib.Signed.{_≤ℤ_}
-use borrow.Author.Tests.{le-leb, eq-eqb, ne-eqb}
-use Rattle.quantity.specs.Limits.{inside, trueWind, highestWind}
+use borrow.Author.Tests.{eq-eqb, ne-eqb}
+use Rattle.quantity.specs.Limits.{inside, degrees, trueWind, highestWind}
 use Rattle.quantity.specs.Convert.{partsOfKnots, partsOfMetres, keptDirection}
 use Rattle.quantity.specs.declared.MetresPerSecond.{MetresPerSecond}
 use Rattle.quantity.specs.declared.Degrees.{Degrees}
-use Rattle.quantity.proofs.LimitLaws.{from-nought}
+use Rattle.quantity.proofs.LimitLaws.{then-inside}
 use Rattle.sine.specs.Sine.{cosine, above, below, Parts}
 use Rattle.wind.specs.declared.TrueWind.{TrueWind}
 use Rattle.wind.specs.declared.TrueWind.the-variants.{Blows, OutsideLimits}
@@ -76,7 +76,7 @@ module _ (course ship apparent bow : ℕ) (v : MetresPerSecond) (d : Degrees) (a
 
   -- "speed 2, 0 to 956"
   pub speed-inside : inside trueWind (pos (v .0)) ≡ true
-  speed-inside = from-nought (v .0) highestWind ∙ le-leb (v .0) highestWind speed-most
+  speed-inside = then-inside (v .0) highestWind speed-most
 
   -- "direction 2, 0 to 360, 0 exactly when speed is 0"
   pub calm : v .0 ≡ 0 → d .0 ≡ 0
@@ -92,9 +92,12 @@ module _ (course ship apparent bow : ℕ) (v : MetresPerSecond) (d : Degrees) (a
       by zero z = z
       by (suc n) z = absurd (omega (arith, blows (λ y. omega arith)))
 
-  pub direction-most : d .0 ≤ 360
+  direction-most : d .0 ≤ natAbs (degrees .high)
   direction-most = by (v .0) refl
     where
-      by : (n : ℕ) → v .0 ≡ n → d .0 ≤ 360
+      by : (n : ℕ) → v .0 ≡ n → d .0 ≤ natAbs (degrees .high)
       by zero z = omega (arith, calm z)
       by (suc n) z = blows (λ y. omega arith) .1
+
+  pub direction-inside : inside degrees (pos (d .0)) ≡ true
+  direction-inside = then-inside (d .0) (natAbs (degrees .high)) direction-most
