@@ -9,7 +9,7 @@ use lib.Dec.{eqb, leb, ltb, lit<}
 use lib.IntN.{ℤ, natAbs, _-ℤ_}
 use borrow.Author.Tests.{ltb-false, le-leb, lt-ltb, not-false}
 use Rattle.number.specs.Refusal.{given, answer}
-use Rattle.quantity.specs.Limits.{lastMinute, inside, pressureLimits, wheelhouse, bulb, recordedPressure}
+use Rattle.quantity.specs.Limits.{lastMinute, threeHours, inside, pressureLimits, wheelhouse, bulb, recordedPressure}
 use Rattle.quantity.specs.declared.MetresPerSecond.{MetresPerSecond}
 use Rattle.quantity.specs.declared.Degrees.{Degrees}
 use Rattle.settings.specs.Settings.{checked}
@@ -39,7 +39,7 @@ both : {a b : Bool} → a ≡ true → b ≡ true → (a && b) ≡ true
 both p q = rw (p, q)
 
 -- a minute that may be asked may be recorded
-minute-right : (m kind : ℕ) → ltb lastMinute m ≡ false → 0 < kind → cond (eqb kind 2) (leb 180 m) true ≡ true → minuteRight 0 kind m ≡ true
+minute-right : (m kind : ℕ) → ltb lastMinute m ≡ false → 0 < kind → cond (eqb kind 2) (leb threeHours m) true ≡ true → minuteRight 0 kind m ≡ true
 unfolding minuteRight
 minute-right m kind t k h = both (both (le-leb m lastMinute (ltb-false lastMinute m t)) (lt-ltb 0 (rank m kind) (omega arith))) h
 
@@ -99,11 +99,11 @@ module _ (g : Settings) (good : checked g ≡ given tt) (M : List (List ℕ)) (m
       let j = passed _ _ (TendencyRule S m) t (i .1) in
       let rule = ruled (TendencyRule S m) t (j .1) in
       let x = S .recall in
-      let taken = tendency-taken g good dew (first (x 0 m)) (first (x 1 m)) (first (x 0 (m - 180))) (first (x 1 (m - 180))) (λ k. isPresent (remembered (history (g .unit) 0 M) k)) m
+      let taken = tendency-taken g good dew (first (x 0 m)) (first (x 1 m)) (first (x 0 (m - threeHours))) (first (x 1 (m - threeHours))) (λ k. isPresent (remembered (history (g .unit) 0 M) k)) m
       (heard-inside g good M m 0 (lit< tt) (not-false _ (e .0))) (heard-inside g good M m 1 (lit< tt) (not-false _ (f .0)))
-      (heard-inside g good M (m - 180) 0 (lit< tt) (not-false _ (c .0))) (heard-inside g good M (m - 180) 1 (lit< tt) (not-false _ (d .0))) in
-      both (minute-right m 2 (a .0) (lit< tt) (le-leb 180 m (ltb-false m 180 (b .0))))
-      (subst (λ (y : Body). bodyRight dew y ≡ true) (same-body (t .change) (seaLevelAt S m -ℤ seaLevelAt S (m - 180)) (t .absent) (S .missing m) (rule .change) (rule .absent)) taken)
+      (heard-inside g good M (m - threeHours) 0 (lit< tt) (not-false _ (c .0))) (heard-inside g good M (m - threeHours) 1 (lit< tt) (not-false _ (d .0))) in
+      both (minute-right m 2 (a .0) (lit< tt) (le-leb threeHours m (ltb-false m threeHours (b .0))))
+      (subst (λ (y : Body). bodyRight dew y ≡ true) (same-body (t .change) (seaLevelAt S m -ℤ seaLevelAt S (m - threeHours)) (t .absent) (S .missing m) (rule .change) (rule .absent)) taken)
 
   -- ---- wind
 

@@ -2,14 +2,14 @@
 -- file's rules. Assumes nothing.
 use mathlib.Core.Path.{_≡_, refl}
 use mathlib.Core.Bool.{Bool, true, _&&_}
-use Prim.Native.Nat.{ℕ, zero, suc, _-_, _*_, _≤_}
+use Prim.Native.Nat.{ℕ, zero, suc, _≤_}
 use native.Mathlib.Omega.{arith}
 use lib.IntN.{ℤ, pos, negsuc, natAbs, _-ℤ_}
-use borrow.Author.Tests.{le-leb, lt-ltb, eq-eqb, ne-eqb}
-use Rattle.number.specs.Round.{nearest}
+use borrow.Author.Tests.{le-leb, eq-eqb, ne-eqb}
 use Rattle.number.specs.Whole.{within}
 use Rattle.number.specs.Refusal.{given}
-use Rattle.quantity.specs.Limits.{inside, pressureLimits, wheelhouse, recordedPressure}
+use Rattle.quantity.specs.Limits.{inside, pressureLimits, wheelhouse, recordedPressure, pressureChange, minutesBetween}
+use Rattle.quantity.proofs.LimitLaws.{either-side}
 use Rattle.quantity.specs.declared.MetresPerSecond.{MetresPerSecond}
 use Rattle.quantity.specs.declared.Degrees.{Degrees}
 use Rattle.settings.specs.Settings.{checked}
@@ -20,14 +20,15 @@ use Rattle.pressure.specs.Pressure.{barometerIn, seaLevel}
 use Rattle.pressure.proofs.PressureTheorems.{sea-level-recorded, change-recorded}
 use Rattle.wind.specs.Answer.{IsWind}
 use Rattle.wind.specs.declared.TrueWind.the-variants.{Blows}
-use Rattle.wind.proofs.WindTheorems.{speed-most, calm, calm-only, direction-most}
-use Rattle.vapour.specs.Vapour.{recordedVapour}
+use Rattle.wind.proofs.WindTheorems.{speed-inside, calm, calm-only, direction-inside}
+use Rattle.vapour.specs.Vapour.{lowestVapour, recordedVapour, relativeHumidity, vapourDeficit}
+use Rattle.vapour.proofs.RangeLaws.{in-range}
 use Rattle.vapour.proofs.DewLaws.{dew-one}
 use Rattle.humidity.specs.Humidity.{IsMoisture}
 use Rattle.humidity.specs.declared.HumidityFigures.{HumidityFigures}
 use Rattle.humidity.specs.declared.Moisture.the-variants.{Given}
 use Rattle.humidity.proofs.HumidityTheorems.{writable}
-use Rattle.watchfile.specs.Rules.{pressureRight, changeRight, recordedChange, absentRight, speedRight, directionRight, eRight, saturationRight, deficitRight, relativeRight, dewRight}
+use Rattle.watchfile.specs.Rules.{pressureRight, changeRight, absentRight, speedRight, directionRight, eRight, saturationRight, deficitRight, relativeRight, dewRight}
 use Rattle.watchfile.specs.Format.{DewRule, kept, bodyRight}
 use Rattle.watchfile.specs.declared.Body.the-variants.{Pressure, Tendency, Wind, Humidity}
 
@@ -39,10 +40,6 @@ unsigned : (z : ℤ) → inside recordedPressure z ≡ true → inside recordedP
 unsigned (pos n) h = h
 unsigned (negsuc n) h = let z : _≡_ {A = ℕ} 0 1 = cc in absurd (omega arith)
 
-within-3000 : (z : ℤ) → natAbs z ≤ 3000 → inside recordedChange z ≡ true
-within-3000 (pos n) h = le-leb n 3000 h
-within-3000 (negsuc n) h = both (le-leb n 2999 (omega arith)) refl
-
 module _ (g : Settings) (good : checked g ≡ given tt) (rule : ℕ → ℤ) where
   -- Sea level pressure.
   pub pressure-taken : (r t : ℤ) → inside (pressureLimits (g .unit)) r ≡ true → inside wheelhouse t ≡ true
@@ -50,21 +47,21 @@ module _ (g : Settings) (good : checked g ≡ given tt) (rule : ℕ → ℤ) whe
   unfolding pressureRight
   pressure-taken r t i j = unsigned (seaLevel (barometerIn g) r t) (sea-level-recorded g good r t i j)
 
-  -- The change between any two of it, with the absent minutes among 179.
+  -- The change between any two of it, with the absent minutes among those between.
   pub tendency-taken : (r t q s : ℤ) (isPresent : ℕ → Bool) (m : ℕ)
       → inside (pressureLimits (g .unit)) r ≡ true → inside wheelhouse t ≡ true → inside (pressureLimits (g .unit)) q ≡ true → inside wheelhouse s ≡ true
-      → bodyRight rule (Tendency (kept (seaLevel (barometerIn g) r t -ℤ seaLevel (barometerIn g) q s)) (absents isPresent m 179)) ≡ true
+      → bodyRight rule (Tendency (kept (seaLevel (barometerIn g) r t -ℤ seaLevel (barometerIn g) q s)) (absents isPresent m minutesBetween)) ≡ true
   unfolding changeRight absentRight
   tendency-taken r t q s isPresent m i j k l =
       both
-      (within-3000 (seaLevel (barometerIn g) r t -ℤ seaLevel (barometerIn g) q s) (change-recorded g good r t q s i j k l))
-      (le-leb (absents isPresent m 179) 179 (absents-le isPresent m 179))
+      (either-side (seaLevel (barometerIn g) r t -ℤ seaLevel (barometerIn g) q s) (natAbs (pressureChange .high)) (change-recorded g good r t q s i j k l))
+      (le-leb (absents isPresent m minutesBetween) minutesBetween (absents-le isPresent m minutesBetween))
 
 -- The true wind.
 pub wind-taken : (rule : ℕ → ℤ) (course ship apparent bow : ℕ) (v : MetresPerSecond) (d : Degrees) → IsWind course ship apparent bow (Blows v d)
     → bodyRight rule (Wind (v .0) (d .0)) ≡ true
 unfolding speedRight directionRight
-wind-taken rule course ship apparent bow v d a = both (le-leb (v .0) 956 (speed-most course ship apparent bow v d a)) (by (v .0) refl)
+wind-taken rule course ship apparent bow v d a = both (speed-inside course ship apparent bow v d a) (by (v .0) refl)
   where
     some : (n : ℕ) → v .0 ≡ suc n → (m : ℕ) → d .0 ≡ m → 1 ≤ d .0
     some n e zero z = absurd (omega (arith, calm-only course ship apparent bow v d a z))
@@ -74,7 +71,7 @@ wind-taken rule course ship apparent bow v d a = both (le-leb (v .0) 956 (speed-
     by zero e = rw (eq-eqb (v .0) 0 e) (eq-eqb (d .0) 0 (calm course ship apparent bow v d a e))
     by (suc n) e =
         rw (ne-eqb (v .0) 0 (λ z. omega arith))
-        (both (le-leb 1 (d .0) (some n e (d .0) refl)) (le-leb (d .0) 360 (direction-most course ship apparent bow v d a)))
+        (both (le-leb 1 (d .0) (some n e (d .0) refl)) (direction-inside course ship apparent bow v d a))
 
 -- a number is within itself
 itself : (z : ℤ) → within z z z ≡ true
@@ -90,12 +87,12 @@ humidity-taken rule ruled dry wet p a h m =
     let e = h .e .0 in
     let s = h .saturation .0 in
     let f = w .follow in
-    let in-range : recordedVapour e ≡ true = both (le-leb 19 e (w .least-e)) (le-leb e 12345 (omega (arith, w .e-saturation, w .most-saturation))) in
-    let dew : rule e ≡ h .dew .0 .v = dew-one e (rule e) (h .dew .0 .v) (ruled e in-range) (f .dew) in
+    let in-e : recordedVapour e ≡ true = in-range e (w .least-e) (omega (arith, w .e-saturation, w .most-saturation)) in
+    let dew : rule e ≡ h .dew .0 .v = dew-one e (rule e) (h .dew .0 .v) (ruled e in-e) (f .dew) in
     both
     (both
     (both
-    (both (both (le-leb 19 e (w .least-e)) (le-leb e s (w .e-saturation))) (both (le-leb 19 s (w .least-saturation)) (le-leb s 12345 (w .most-saturation))))
-    (eq-eqb (h .deficit .0) (s - e) (f .deficit)))
-    (both (lt-ltb 0 s (omega (arith, w .least-saturation))) (eq-eqb (h .relative) (nearest (100 * e) s) (f .relative))))
-    (both in-range (rw dew (itself (h .dew .0 .v))))
+    (both (both (le-leb lowestVapour e (w .least-e)) (le-leb e s (w .e-saturation))) (in-range s (w .least-saturation) (w .most-saturation)))
+    (eq-eqb (h .deficit .0) (vapourDeficit e s) (f .deficit)))
+    (eq-eqb (h .relative) (relativeHumidity e s) (f .relative)))
+    (both in-e (rw dew (itself (h .dew .0 .v))))

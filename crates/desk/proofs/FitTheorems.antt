@@ -2,19 +2,20 @@
 -- Assumes nothing.
 use mathlib.Core.Path.{_≡_, refl, sym, subst}
 use mathlib.Core.Bool.{Bool, true, false, _&&_, cond}
-use Prim.Native.Nat.{ℕ, _+_, _-_, _*_, _/_, _≤_, _<_}
+use Prim.Native.Nat.{ℕ, _≤_}
 use native.Mathlib.Omega.{arith}
-use native.Mathlib.Nat.{div-lt-iff-lt-mul}
-use lib.Dec.{leb, ltb, eqb}
+use lib.Dec.{leb, eqb}
 use lib.IntN.{ℤ, pos, negsuc, negℤ, natAbs}
 use borrow.Author.Tests.{le-leb, leb-true, eqb-true}
-use Rattle.number.specs.Round.{nearest}
 use Rattle.number.specs.Whole.{within}
 use Rattle.number.proofs.Sizes.{and-true, within-size, natural}
-use Rattle.quantity.specs.Limits.{inside, recordedPressure}
+use Rattle.quantity.specs.Limits.{inside, recordedPressure, highestWind, degrees, minutesBetween}
+use Rattle.quantity.proofs.LimitLaws.{up-to}
 use Rattle.quantity.specs.declared.Hectopascals.{Hectopascals}
 use Rattle.quantity.specs.declared.MetresPerSecond.{MetresPerSecond}
 use Rattle.quantity.specs.declared.Degrees.{Degrees}
+use Rattle.vapour.specs.Vapour.{lowestVapour, relativeHumidity, vapourDeficit}
+use Rattle.vapour.proofs.RangeLaws.{range-then, relative-most}
 use Rattle.humidity.specs.declared.HumidityFigures.{HumidityFigures}
 use Rattle.station.specs.declared.PressureAnswer.the-variants as pressure
 use Rattle.station.specs.declared.TendencyAnswer.the-variants as tendency
@@ -54,27 +55,21 @@ module _ (rule : ℕ → ℤ) (before m : ℕ) where
   unfolding absentRight
   tendency-fits c n h =
       let b = and-true (changeRight (c .0 .v)) (absentRight n) (body rule before (tendencyRecord m (record { change = c .0 .v; absent = n })) h) in
-      sym (tendency-some m (tendency.Given c n) c n refl (record { v = c .0 .v }) refl (in-signed (c .0 .v) (change-fits (c .0 .v) (b .0))) (omega (arith, leb-true n 179 (b .1))))
+      sym (tendency-some m (tendency.Given c n) c n refl (record { v = c .0 .v }) refl (in-signed (c .0 .v) (change-fits (c .0 .v) (b .0))) (omega (arith, leb-true n minutesBetween (b .1))))
 
-  direction-most : (speed direction : ℕ) → cond (eqb speed 0) (eqb direction 0) (leb 1 direction && leb direction 360) ≡ true → direction ≤ 360
+  direction-most : (speed direction : ℕ) → directionRight speed direction ≡ true → direction ≤ natAbs (degrees .high)
+  unfolding directionRight
   direction-most speed direction h = go (eqb speed 0) h
     where
-      go : (b : Bool) → cond b (eqb direction 0) (leb 1 direction && leb direction 360) ≡ true → direction ≤ 360
+      go : (b : Bool) → cond b (eqb direction 0) (leb 1 direction && inside degrees (pos direction)) ≡ true → direction ≤ natAbs (degrees .high)
       go true h = omega (arith, eqb-true direction 0 h)
-      go false h = leb-true direction 360 (and-true (leb 1 direction) (leb direction 360) h .1)
+      go false h = up-to direction (natAbs (degrees .high)) (and-true (leb 1 direction) (inside degrees (pos direction)) h .1)
 
   pub wind-fits : (v : MetresPerSecond) (d : Degrees) → recordRight rule before (windRecord m v d) ≡ true → windEntry m (wind.Given v d) ≡ entry.Record (windRecord m v d)
-  unfolding speedRight directionRight
+  unfolding speedRight
   wind-fits v d h =
       let b = and-true (speedRight (v .0)) (directionRight (v .0) (d .0)) (body rule before (windRecord m v d) h) in
-      sym (wind-some m (wind.Given v d) v d refl (omega (arith, leb-true (v .0) 956 (b .0))) (omega (arith, direction-most (v .0) (d .0) (b .1))))
-
-  -- at most a hundred in a hundred
-  relative-most : (e s : ℕ) → e ≤ s → 0 < s → nearest (100 * e) s ≤ 255
-  unfolding nearest
-  relative-most e s h p =
-      let l : (2 * (100 * e) + s) / (2 * s) < 256 = div-lt-iff-lt-mul {k = 2 * s} {x = 2 * (100 * e) + s} {y = 256} (omega arith) .1 (omega arith) in
-      omega arith
+      sym (wind-some m (wind.Given v d) v d refl (omega (arith, up-to (v .0) highestWind (b .0))) (omega (arith, direction-most (v .0) (d .0) (b .1))))
 
   pub humidity-fits : DewRule rule → (h : HumidityFigures) → recordRight rule before (humidityRecord m h) ≡ true
       → humidityEntry m (humidity.Given h) ≡ entry.Record (humidityRecord m h)
@@ -88,11 +83,10 @@ module _ (rule : ℕ → ℤ) (before m : ℕ) where
       let b3 = and-true (eRight s e && saturationRight s && deficitRight e s d) (relativeRight e s (h .relative)) (b4 .0) in
       let b2 = and-true (eRight s e && saturationRight s) (deficitRight e s d) (b3 .0) in
       let b1 = and-true (eRight s e) (saturationRight s) (b2 .0) in
-      let under = leb-true e s (and-true (leb 19 e) (leb e s) (b1 .0) .1) in
-      let least = leb-true 19 s (and-true (leb 19 s) (leb s 12345) (b1 .1) .0) in
-      let most = leb-true s 12345 (and-true (leb 19 s) (leb s 12345) (b1 .1) .1) in
-      let left = eqb-true d (s - e) (b2 .1) in
-      let percent = eqb-true (h .relative) (nearest (100 * e) s) (and-true (ltb 0 s) (eqb (h .relative) (nearest (100 * e) s)) (b3 .1) .1) in
-      let hundred = relative-most e s under (omega arith) in
+      let under = leb-true e s (and-true (leb lowestVapour e) (leb e s) (b1 .0) .1) in
+      let range = range-then s (b1 .1) in
+      let left = eqb-true d (vapourDeficit e s) (b2 .1) in
+      let percent = eqb-true (h .relative) (relativeHumidity e s) (b3 .1) in
+      let hundred = relative-most e s (omega arith) under in
       sym (humidity-some m (humidity.Given h) h refl (omega arith) (omega arith) (omega arith) (omega arith)
       (in-signed (h .dew .0 .v) (dew-fits rule ruled e (h .dew .0 .v) (b4 .1))))

@@ -13,7 +13,7 @@ use lib.Seq.{take-length}
 use borrow.Author.Tests.{ltb-true, lt-ltb, le-ltb}
 use Rattle.number.specs.Refusal.{Answer, refused, given, answer, Numbered, numbered}
 use Rattle.number.proofs.Sizes.{and-true}
-use Rattle.quantity.specs.Limits.{lastMinute}
+use Rattle.quantity.specs.Limits.{lastMinute, threeHours}
 use Rattle.watchfile.specs.Bytes.{AreBytes}
 use Rattle.watchfile.specs.Rules.{minuteRight, rank}
 use Rattle.watchfile.specs.Format.{DewRule, kindOf, bodyRight, recordRight, rankOf, bodyBytes, bodiesBytes, fileOf, reading, writing}
@@ -70,7 +70,7 @@ module _ (rule : ℕ → ℤ) where
       let k = kindOf (r .body) in
       let t = r .minute in
       let p = and-true (minuteRight b k t) (bodyRight rule (r .body)) h in
-      let q = and-true (leb t lastMinute && ltb b (rank t k)) (cond (eqb k 2) (leb 180 t) true) (p .0) in
+      let q = and-true (leb t lastMinute && ltb b (rank t k)) (cond (eqb k 2) (leb threeHours t) true) (p .0) in
       let s = and-true (leb t lastMinute) (ltb b (rank t k)) (q .0) in
       both (both (both (s .0) (lt-ltb c (rank t k) l)) (q .1)) (p .1)
 
@@ -80,7 +80,7 @@ module _ (rule : ℕ → ℤ) where
       let k = kindOf (r .body) in
       let t = r .minute in
       let p = and-true (minuteRight b k t) (bodyRight rule (r .body)) h in
-      let q = and-true (leb t lastMinute && ltb b (rank t k)) (cond (eqb k 2) (leb 180 t) true) (p .0) in
+      let q = and-true (leb t lastMinute && ltb b (rank t k)) (cond (eqb k 2) (leb threeHours t) true) (p .0) in
       ltb-true b (rank t k) (and-true (leb t lastMinute) (ltb b (rank t k)) (q .0) .1)
 
   pub right-inserted : (b : ℕ) (r : Record) (qs : List Record) → recordRight rule b r ≡ true → AllRight rule b qs → AllRight rule b (inserted r qs)

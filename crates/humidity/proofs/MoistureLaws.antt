@@ -8,6 +8,7 @@ use lib.Signed.{leZ}
 use Rattle.number.specs.Refusal.{answer}
 use Rattle.quantity.specs.Limits.{inside, recordedPressure}
 use Rattle.settings.specs.Settings.{psychrometer}
+use Rattle.vapour.specs.Vapour.{lowestVapour}
 use Rattle.humidity.specs.Humidity.{vapourPressure, withinLimits, IsMoisture}
 use Rattle.humidity.specs.Parts.{Tabled, Ready, FiguresOf}
 use Rattle.humidity.specs.declared.HumidityFigures.{HumidityFigures}
@@ -57,7 +58,7 @@ module _ (dry wet p a : ℤ) where
         }
 
   module _ (d w : ℕ) (ready : Ready dry wet p a d w) where
-    pub too-dry : leZ (pos 19) (vapourPressure w a p dry wet) ≡ false → IsMoisture dry wet p a TooDry
+    pub too-dry : leZ (pos lowestVapour) (vapourPressure w a p dry wet) ≡ false → IsMoisture dry wet p a TooDry
     unfolding answer
     too-dry y =
         record {
@@ -68,7 +69,7 @@ module _ (dry wet p a : ℤ) where
           worked = λ e. absurd (let z : _≡_ {A = ℕ} 0 1 = cc in omega arith);
         }
 
-    pub figured : (h : HumidityFigures) → leZ (pos 19) (vapourPressure w a p dry wet) ≡ true →
+    pub figured : (h : HumidityFigures) → leZ (pos lowestVapour) (vapourPressure w a p dry wet) ≡ true →
         FiguresOf (natAbs (vapourPressure w a p dry wet)) d h → IsMoisture dry wet p a (Given h)
     unfolding answer
     figured h y f =
@@ -87,6 +88,6 @@ module _ (dry wet p a : ℤ) where
         }
 
     -- e as the code has it: n is its size
-    pub e-order : (n : ℕ) → n ≡ natAbs (vapourPressure w a p dry wet) → leZ (pos 19) (vapourPressure w a p dry wet) ≡ true → Order n w d
+    pub e-order : (n : ℕ) → n ≡ natAbs (vapourPressure w a p dry wet) → leZ (pos lowestVapour) (vapourPressure w a p dry wet) ≡ true → Order n w d
     e-order n h y =
         rw h (in-order dry wet p a w d (within dry wet p a (ready .limits)) (ready .bulbs) (ready .tabled .near-wet) (ready .tabled .near-dry) y)

@@ -14,7 +14,7 @@ use Rattle.number.proofs.RoundLaws.{nearest-whole, nearest-monotone}
 use Rattle.number.proofs.Sizes.{and-true, within-size, natural}
 use Rattle.quantity.specs.Limits.{inside, bulb, recordedPressure}
 use Rattle.settings.specs.Settings.{psychrometer}
-use Rattle.vapour.specs.Vapour.{Near, water}
+use Rattle.vapour.specs.Vapour.{Near, lowestVapour, highestVapour, water}
 use Rattle.vapour.proofs.UpDown.{up, down, le-then, then-le, of-minus, of-sum, of-times, from-zero}
 use Rattle.vapour.proofs.SaturationLaws.{table-rises}
 use Rattle.vapour.proofs.TableLaws.{entry-range}
@@ -43,10 +43,10 @@ within dry wet p a e =
 pub sized : (dry wet p a : ℤ) → Within dry wet p a → Sized dry wet p a
 sized dry wet p a w =
     record {
-      size-dry = within-size (negsuc 399) (pos 500) dry 500 (omega arith) (omega arith) (w .in-dry);
-      size-wet = within-size (negsuc 399) (pos 500) wet 500 (omega arith) (omega arith) (w .in-wet);
-      size-p = within-size (pos 8000) (pos 11500) p 11500 (omega arith) (omega arith) (w .in-p);
-      size-a = within-size (pos 500) (pos 1000) a 1000 (omega arith) (omega arith) (w .in-a);
+      size-dry = within-size (bulb .low) (bulb .high) dry (natAbs (bulb .high)) (omega arith) (omega arith) (w .in-dry);
+      size-wet = within-size (bulb .low) (bulb .high) wet (natAbs (bulb .high)) (omega arith) (omega arith) (w .in-wet);
+      size-p = within-size (recordedPressure .low) (recordedPressure .high) p (natAbs (recordedPressure .high)) (omega arith) (omega arith) (w .in-p);
+      size-a = within-size (psychrometer .low) (psychrometer .high) a (natAbs (psychrometer .high)) (omega arith) (omega arith) (w .in-a);
     }
 
 -- ---- what e lies under the entry
@@ -61,7 +61,7 @@ down-size (pos n) = zero-le
 down-size (negsuc n) = omega arith
 
 -- 1 + 0.00115 wet, in millionths
-growth : (wet : ℤ) → natAbs wet ≤ 500 → pos 1000000 +ℤ pos 115 *ℤ wet ≡ pos (up (pos 1000000 +ℤ pos 115 *ℤ wet))
+growth : (wet : ℤ) → natAbs wet ≤ natAbs (bulb .high) → pos 1000000 +ℤ pos 115 *ℤ wet ≡ pos (up (pos 1000000 +ℤ pos 115 *ℤ wet))
 growth wet h =
     from-zero (pos 1000000 +ℤ pos 115 *ℤ wet) (omega (arith, of-sum (pos 1000000) (pos 115 *ℤ wet), of-times 115 wet, down-size wet))
 
@@ -69,8 +69,8 @@ not-below : (dry wet p a : ℤ) → Within dry wet p a → leZ wet dry ≡ true 
 not-below dry wet p a w e = (
   natAbs a * natAbs p * up (dry -ℤ wet) * up (pos 1000000 +ℤ pos 115 *ℤ wet),
   rw (
-    sym (natural 500 (pos 1000) a (w .in-a)),
-    sym (natural 8000 (pos 11500) p (w .in-p)),
+    sym (natural (natAbs (psychrometer .low)) (psychrometer .high) a (w .in-a)),
+    sym (natural (natAbs (recordedPressure .low)) (recordedPressure .high) p (w .in-p)),
     difference dry wet e,
     growth wet (sized dry wet p a w .size-wet),
   ),
@@ -103,19 +103,19 @@ under-entry dry wet p a w l e =
     rw (rounded-once w a p dry wet, n .1) (rounded-under (pos (w * 1000000000000) -ℤ pos (n .0)) w 1000000000000 (omega arith) (less (w * 1000000000000) (n .0)))
 
 -- e as a whole number of hundredths, where it is not too dry
-pub whole-e : (z : ℤ) → leZ (pos 19) z ≡ true → (pos (natAbs z) ≡ z) × (19 ≤ natAbs z)
-whole-e (pos n) e = (refl, leb-true 19 n e)
+pub whole-e : (z : ℤ) → leZ (pos lowestVapour) z ≡ true → (pos (natAbs z) ≡ z) × (lowestVapour ≤ natAbs z)
+whole-e (pos n) e = (refl, leb-true lowestVapour n e)
 whole-e (negsuc n) e = absurd (let z : _≡_ {A = ℕ} 0 1 = cc in omega arith)
 
 -- e, saturation and the wet bulb's entry in order
 pub record Order (e w d : ℕ) : Type 0 where
-  pub least : 19 ≤ e
+  pub least : lowestVapour ≤ e
   pub e-wet : e ≤ w
   pub wet-dry : w ≤ d
-  pub most : d ≤ 12345
+  pub most : d ≤ highestVapour
 
 pub in-order : (dry wet p a : ℤ) (w d : ℕ) → Within dry wet p a → leZ wet dry ≡ true → Near water wet w → Near water dry d →
-    leZ (pos 19) (vapourPressure w a p dry wet) ≡ true → Order (natAbs (vapourPressure w a p dry wet)) w d
+    leZ (pos lowestVapour) (vapourPressure w a p dry wet) ≡ true → Order (natAbs (vapourPressure w a p dry wet)) w d
 in-order dry wet p a w d l e nw nd h =
     let whole = whole-e (vapourPressure w a p dry wet) h in
     let n = natAbs (vapourPressure w a p dry wet) in

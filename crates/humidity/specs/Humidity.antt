@@ -3,14 +3,14 @@
 use mathlib.Core.Path.{_≡_}
 use mathlib.Core.Bool.{Bool, true, not, _&&_}
 use mathlib.Core.List.{List, [], _∷_}
-use Prim.Native.Nat.{ℕ, _*_, _-_}
+use Prim.Native.Nat.{ℕ}
 use lib.IntN.{ℤ, pos, _+ℤ_, _-ℤ_, _*ℤ_}
 use lib.Signed.{leZ}
-use Rattle.number.specs.Round.{nearest, rounded}
+use Rattle.number.specs.Round.{rounded}
 use Rattle.number.specs.Refusal.{Test, Answer, refused, given, answer}
 use Rattle.quantity.specs.Limits.{inside, bulb, recordedPressure}
 use Rattle.settings.specs.Settings.{psychrometer}
-use Rattle.vapour.specs.Vapour.{Near, DewPoint, water}
+use Rattle.vapour.specs.Vapour.{Near, DewPoint, lowestVapour, relativeHumidity, vapourDeficit, water}
 use Rattle.humidity.specs.declared.HumidityFigures.{HumidityFigures}
 use Rattle.humidity.specs.declared.Moisture.{Moisture}
 use Rattle.humidity.specs.declared.Moisture.the-variants.{Given, WetAboveDry, TooDry, OutsideLimits}
@@ -23,21 +23,13 @@ lessBy a p dry wet = a *ℤ p *ℤ (dry -ℤ wet) *ℤ (pos 1000000 +ℤ pos 115
 unfoldable pub vapourPressure : ℕ → ℤ → ℤ → ℤ → ℤ → ℤ
 vapourPressure table a p dry wet = rounded (pos table *ℤ pos 1000000000000 -ℤ lessBy a p dry wet) 1000000000000
 
--- "Relative humidity: 100 e / table(dry), rounded to 1 %."
-abbrev pub relativeHumidity : ℕ → ℕ → ℕ
-relativeHumidity e saturation = nearest (100 * e) saturation
-
--- "Deficit: table(dry) - e." (e is never the larger: proofs/HumidityTheorems)
-abbrev pub vapourDeficit : ℕ → ℕ → ℕ
-vapourDeficit e saturation = saturation - e
-
 -- 13: "wet bulb above dry bulb"
 abbrev pub wetAboveDry : ℤ → ℤ → Bool
 wetAboveDry dry wet = not (leZ wet dry)
 
 -- 15: "e below 0.19 hPa"
 abbrev pub tooDry : ℤ → Bool
-tooDry e = not (leZ (pos 19) e)
+tooDry e = not (leZ (pos lowestVapour) e)
 
 -- Each figure is within its limits: the bulbs those of channels 4 and 5, the pressure a watch file's, A those of the settings.
 abbrev pub withinLimits : ℤ → ℤ → ℤ → ℤ → Bool

@@ -4,7 +4,8 @@ use mathlib.Core.Bool.{true, _&&_}
 use Prim.Native.Nat.{ℕ, _≤_}
 use lib.IntN.{ℤ, natAbs}
 use lib.Signed.{leZ}
-use Rattle.quantity.specs.Limits.{inside, bulb}
+use Rattle.quantity.specs.Limits.{inside, bulb, recordedPressure}
+use Rattle.settings.specs.Settings.{psychrometer}
 use Rattle.vapour.specs.Vapour.{Near, water}
 use Rattle.humidity.specs.Humidity.{withinLimits, Follow}
 use Rattle.humidity.specs.declared.HumidityFigures.{HumidityFigures}
@@ -23,10 +24,10 @@ pub record Ready (dry wet p a : ℤ) (d w : ℕ) : Type 0 where
 
 -- no figure is larger than its limits allow
 pub record Sized (dry wet p a : ℤ) : Type 0 where
-  pub size-dry : natAbs dry ≤ 500
-  pub size-wet : natAbs wet ≤ 500
-  pub size-p : natAbs p ≤ 11500
-  pub size-a : natAbs a ≤ 1000
+  pub size-dry : natAbs dry ≤ natAbs (bulb .high)
+  pub size-wet : natAbs wet ≤ natAbs (bulb .high)
+  pub size-p : natAbs p ≤ natAbs (recordedPressure .high)
+  pub size-a : natAbs a ≤ natAbs (psychrometer .high)
 
 -- the figures of e and saturation
 pub record FiguresOf (e s : ℕ) (h : HumidityFigures) : Type 0 where

@@ -1,12 +1,12 @@
 // Humidity by the psychrometer: vapour pressure, saturation, deficit, relative humidity and dew point; refusals 7, 13 and 15.
 ghost use mathlib.Core.Path.{_≡_};
-ghost use mathlib.Core.Bool.{_&&_};
-ghost use Prim.Native.Nat.{_<_, _≤_};
+ghost use mathlib.Core.Bool.{true, _&&_};
+ghost use Prim.Native.Nat.{_≤_};
 ghost use Rattle.number.specs.Whole.{Is};
 ghost use Rattle.quantity.specs.Limits.{inside, recordedPressure};
 ghost use Rattle.settings.specs.Settings.{psychrometer};
-ghost use Rattle.vapour.specs.Vapour.{DewPoint};
-ghost use Rattle.humidity.specs.Humidity.{lessBy, vapourPressure, relativeHumidity, IsMoisture};
+ghost use Rattle.vapour.specs.Vapour.{DewPoint, lowestVapour, highestVapour, recordedVapour};
+ghost use Rattle.humidity.specs.Humidity.{lessBy, vapourPressure, IsMoisture};
 ghost use Rattle.humidity.specs.Parts.{Tabled, Ready, Sized, FiguresOf};
 use number::Kept;
 use number::Number;
@@ -61,7 +61,7 @@ fn less_by(a: Number, pressure: Number, dry: Number, wet: Number) -> Number
 
 // The vapour pressure by the wet bulb's entry, rounded once to 0.01 hPa.
 fn vapour_pressure(table: u32, a: Number, pressure: Number, dry: Number, wet: Number) -> Number
-    requires { ⌜ (table ≤ 12345) × Sized (dry .v) (wet .v) (pressure .v) (a .v) ⌝ }
+    requires { ⌜ (table ≤ highestVapour) × Sized (dry .v) (wet .v) (pressure .v) (a .v) ⌝ }
     ensures { λ r. ⌜ r .v ≡ vapourPressure table (a .v) (pressure .v) (dry .v) (wet .v) ⌝ }
 {
     let parts = Number { v: 1000000000000 };
@@ -71,37 +71,28 @@ fn vapour_pressure(table: u32, a: Number, pressure: Number, dry: Number, wet: Nu
         .over(1000000000000)
 }
 
-// 100 e / saturation, rounded to 1 %.
-fn relative(e: u32, saturation: u32) -> u32
-    requires { ⌜ (0 < saturation) × (saturation ≤ 12345) × (e ≤ saturation) ⌝ }
-    ensures { λ r. ⌜ r ≡ relativeHumidity e saturation ⌝ }
-{
-    let half = saturation;
-    (2 * (100 * e) + half) / (2 * saturation)
-}
-
 // The dew point of an e in the range.
-fn dew(e: u32) -> DewTemperature
-    requires { ⌜ (19 ≤ e) × (e ≤ 12345) ⌝ }
-    ensures { λ r. ⌜ DewPoint e (r .0 .v) ⌝ }
+fn dew(e: VapourPressure) -> DewTemperature
+    requires { ⌜ recordedVapour (e .0) ≡ true ⌝ }
+    ensures { λ r. ⌜ DewPoint (e .0) (r .0 .v) ⌝ }
 {
-    match vapour::dew_point(VapourPressure(e)) {
+    match vapour::dew_point(e) {
         Dew::Point(t) => t,
         Dew::OutsideRange => DewTemperature(Kept { v: 0 }),
     }
 }
 
 // The figures of e and saturation.
-fn figures(e: u32, saturation: u32) -> HumidityFigures
-    requires { ⌜ (19 ≤ e) × (saturation ≤ 12345) × (e ≤ saturation) ⌝ }
-    ensures { λ r. ⌜ FiguresOf e saturation r ⌝ }
+fn figures(e: VapourPressure, saturation: VapourPressure) -> HumidityFigures
+    requires { ⌜ (lowestVapour ≤ e .0) × (e .0 ≤ saturation .0) × (saturation .0 ≤ highestVapour) ⌝ }
+    ensures { λ r. ⌜ FiguresOf (e .0) (saturation .0) r ⌝ }
 {
     let t = dew(e);
     HumidityFigures {
-        e: VapourPressure(e),
-        saturation: VapourPressure(saturation),
-        deficit: VapourPressure(saturation - e),
-        relative: relative(e, saturation),
+        e,
+        saturation,
+        deficit: vapour::deficit(e, saturation),
+        relative: vapour::relative_humidity(e, saturation) as u32,
         dew: t,
     }
 }
@@ -112,11 +103,11 @@ fn by_entries(dry: Number, wet: Number, pressure: Number, a: Number, d: u32, w: 
     ensures { λ r. ⌜ IsMoisture (dry .v) (wet .v) (pressure .v) (a .v) r ⌝ }
 {
     let e = vapour_pressure(w, a, pressure, dry, wet);
-    let least = Number { v: 19 };
+    let least = Number::whole(VapourPressure::LOW);
     if !least.at_most(e) {
         return Moisture::TooDry;
     }
-    Moisture::Given(figures(e.size() as u32, d))
+    Moisture::Given(figures(VapourPressure(e.size() as u32), VapourPressure(d)))
 }
 
 // What both bulbs come to where they stand in the table.

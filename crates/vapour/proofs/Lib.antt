@@ -5,5 +5,6 @@ pub mod Bracket
 pub mod SaturationLaws
 pub mod DewLaws
 pub mod TableLaws
+pub mod RangeLaws
 pub mod SingleAnswers
 pub mod TableExists

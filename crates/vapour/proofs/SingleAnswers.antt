@@ -1,5 +1,5 @@
 -- Each public contract of this crate allows a single answer: a tenth has one entry, and a pressure one dew point. Assumes nothing.
-use mathlib.Core.Path.{_≡_, refl, ap}
+use mathlib.Core.Path.{_≡_, refl, sym, ap, _∙_}
 use mathlib.Core.Bool.{Bool, true, false}
 use Prim.Native.Nat.{ℕ}
 use native.Mathlib.Omega.{arith}
@@ -18,6 +18,9 @@ use Rattle.vapour.proofs.SaturationLaws.{near-one}
 use Rattle.vapour.proofs.DewLaws.{dew-one}
 use Rattle.vapour.proofs.saturation.Reads as saturation
 use Rattle.vapour.proofs.dew_point.Reads as dew-point
+use Rattle.vapour.proofs.VapourPressure.holds.Reads as vapour-pressure
+use Rattle.vapour.proofs.relative_humidity.Reads as relative-humidity
+use Rattle.vapour.proofs.deficit.Reads as deficit
 
 pub pressure-by : {x y : VapourPressure} → x .0 ≡ y .0 → x ≡ y
 pressure-by e = ap make e
@@ -54,3 +57,12 @@ single-saturation κs a r r′ s s′ p q = one-saturation _ _ r r′ p q
 
 pub single-dew-point : Single dew-point.Post
 single-dew-point κs a r r′ s s′ p q = one-dew _ r r′ p q
+
+pub single-vapour-pressure : Single vapour-pressure.Post
+single-vapour-pressure κs a r r′ s s′ p q = p ∙ sym q
+
+pub single-relative-humidity : Single relative-humidity.Post
+single-relative-humidity κs a r r′ s s′ p q = p ∙ sym q
+
+pub single-deficit : Single deficit.Post
+single-deficit κs a r r′ s s′ p q = pressure-by (p ∙ sym q)

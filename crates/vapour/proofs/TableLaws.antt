@@ -11,7 +11,7 @@ use lib.Signed.{leZ}
 use borrow.Author.Tests.{leb-true, le-ltb, lt-ltb}
 use Rattle.number.proofs.Sizes.{and-true}
 use Rattle.quantity.specs.Limits.{inside, bulb}
-use Rattle.vapour.specs.Vapour.{Near, AreSaturations, water}
+use Rattle.vapour.specs.Vapour.{Near, AreSaturations, lowestVapour, highestVapour, water}
 use Rattle.vapour.specs.Tables.{tenth, EntriesAt, Least}
 use Rattle.vapour.specs.declared.Saturations.{Saturations}
 use Rattle.vapour.specs.declared.Saturations.the-variants.{Entries, OutsideTable}
@@ -40,19 +40,19 @@ unfolding entry
 least-at xs k passed h = least-by-test k (getD xs k 0) (at least-test xs passed k h)
 
 -- the first and the last entry, and so the range of all
-first-entry : Near water (negsuc 399) 19
+first-entry : Near water (bulb .low) lowestVapour
 unfolding near-test
-first-entry = near-by-test water (negsuc 399) 19 tt
+first-entry = near-by-test water (bulb .low) lowestVapour tt
 
-last-entry : Near water (pos 500) 12345
+last-entry : Near water (bulb .high) highestVapour
 unfolding near-test
-last-entry = near-by-test water (pos 500) 12345 tt
+last-entry = near-by-test water (bulb .high) highestVapour tt
 
-pub entry-range : (t : ℤ) (r : ℕ) → inside bulb t ≡ true → Near water t r → (19 ≤ r) × (r ≤ 12345)
+pub entry-range : (t : ℤ) (r : ℕ) → inside bulb t ≡ true → Near water t r → (lowestVapour ≤ r) × (r ≤ highestVapour)
 entry-range t r h n =
-    let both = and-true (leZ (negsuc 399) t) (leZ t (pos 500)) h in (
-      table-rises (negsuc 399) t 19 r (record { le = subst T (sym (both .0)) tt }) first-entry n,
-      table-rises t (pos 500) r 12345 (record { le = subst T (sym (both .1)) tt }) n last-entry,
+    let both = and-true (leZ (bulb .low) t) (leZ t (bulb .high)) h in (
+      table-rises (bulb .low) t lowestVapour r (record { le = subst T (sym (both .0)) tt }) first-entry n,
+      table-rises t (bulb .high) r highestVapour (record { le = subst T (sym (both .1)) tt }) n last-entry,
     )
 
 -- the place of a tenth in the table

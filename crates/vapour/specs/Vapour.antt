@@ -1,9 +1,11 @@
--- Saturation of water vapour and the dew point (document 01, "Humidity"). Temperatures in tenths of °C unless it says thousandths.
+-- Saturation of water vapour, the dew point, relative humidity and deficit (document 01, "Humidity"). Temperatures in tenths of °C
+-- unless it says thousandths, pressures of vapour in hundredths of hPa.
 use mathlib.Core.Path.{_≡_}
-use mathlib.Core.Bool.{Bool, true, false, _&&_}
+use mathlib.Core.Bool.{Bool, true, false, _&&_, cond}
 use Prim.Native.Nat.{ℕ, suc, _+_, _*_, _-_}
-use lib.Dec.{leb}
+use lib.Dec.{leb, eqb}
 use lib.IntN.{ℤ, pos, negsuc, _*ℤ_, _+ℤ_, _-ℤ_}
+use Rattle.number.specs.Round.{nearest}
 use Rattle.quantity.specs.Limits.{inside, bulb}
 use Rattle.vapour.specs.Exp.{BelowExp, BelowReciprocal}
 use Rattle.vapour.specs.declared.Saturations.{Saturations}
@@ -49,11 +51,25 @@ AreSaturations dry wet OutsideTable = (inside bulb dry && inside bulb wet) ≡ f
 abbrev pub IsTable : (ℤ → ℕ) → Type 0
 IsTable table = (t : ℤ) → inside bulb t ≡ true → Near water t (table t)
 
--- A watch file's range of e: "e 19 to saturation, saturation 19 to 12345".
+-- A watch file's range of e and of saturation, which is the table's: "e 19 to saturation, saturation 19 to 12345".
+abbrev pub lowestVapour : ℕ
+lowestVapour = 19
+
+abbrev pub highestVapour : ℕ
+highestVapour = 12345
+
 abbrev pub recordedVapour : ℕ → Bool
-recordedVapour e = leb 19 e && leb e 12345
+recordedVapour e = leb lowestVapour e && leb e highestVapour
 
 -- The dew point of e in that range.
 abbrev pub IsDew : ℕ → Dew → Type 0
 IsDew e (Point t) = (recordedVapour e ≡ true) × DewPoint e (t .0 .v)
 IsDew e OutsideRange = recordedVapour e ≡ false
+
+-- "Relative humidity: 100 e / table(dry), rounded to 1 %." No saturation of the table is 0; of a saturation of 0 it is 0.
+abbrev pub relativeHumidity : ℕ → ℕ → ℕ
+relativeHumidity e saturation = cond (eqb saturation 0) 0 (nearest (100 * e) saturation)
+
+-- "Deficit: table(dry) - e." 0 where e is the larger, which no answer's is.
+abbrev pub vapourDeficit : ℕ → ℕ → ℕ
+vapourDeficit e saturation = saturation - e

@@ -1,9 +1,9 @@
-// Saturation of water vapour over water, and the dew point.
+// Saturation of water vapour over water, the dew point, and what vapour pressure and saturation come to.
 ghost use mathlib.Core.Path.{_≡_};
 ghost use mathlib.Core.Bool.{true};
 ghost use Prim.Native.Nat.{_<_, _≤_};
 ghost use Rattle.quantity.specs.Limits.{inside, bulb};
-ghost use Rattle.vapour.specs.Vapour.{AreSaturations, IsDew, DewPoint};
+ghost use Rattle.vapour.specs.Vapour.{AreSaturations, lowestVapour, highestVapour, recordedVapour, IsDew, DewPoint, relativeHumidity, vapourDeficit};
 ghost use Rattle.vapour.specs.Tables.{tenth, EntriesAt, Thresholds};
 use number::Kept;
 use number::Number;
@@ -15,6 +15,19 @@ mod tables;
 
 // A pressure of vapour, in hundredths of hPa.
 pub struct VapourPressure(pub u32);
+
+impl VapourPressure {
+    pub const LOW: u32 = 19;
+
+    pub const HIGH: u32 = 12345;
+
+    // Whether n is a saturation of the table's range, and so an e that has a dew point in it.
+    pub fn holds(n: u32) -> bool
+        ensures { λ r. ⌜ r ≡ recordedVapour n ⌝ }
+    {
+        Self::LOW <= n && n <= Self::HIGH
+    }
+}
 
 // A dew point, in tenths of °C.
 pub struct DewTemperature(pub Kept);
@@ -30,7 +43,7 @@ pub enum Saturations {
 // What the dew point comes to.
 pub enum Dew {
     Point(DewTemperature),
-    // The pressure is not one from 0.19 to 123.45 hPa.
+    // The pressure is outside its limits.
     OutsideRange,
 }
 
@@ -78,7 +91,7 @@ pub fn saturation(dry: BulbTemperature, wet: BulbTemperature) -> Saturations
 
 // The place of the dew point of e: the last place whose threshold e reaches, by bisection.
 fn dew_place(table: &[u16; 902], e: u16) -> u32
-    requires { ⌜ (19 ≤ e) × (e ≤ 12345) × Thresholds (now table) ⌝ }
+    requires { ⌜ (lowestVapour ≤ e) × (e ≤ highestVapour) × Thresholds (now table) ⌝ }
     ensures { λ r. ⌜ (r < 901) × DewPoint e (tenth r) ⌝ }
 {
     let mut low: usize = 0;
@@ -95,19 +108,38 @@ fn dew_place(table: &[u16; 902], e: u16) -> u32
     low as u32
 }
 
-// The dew point of e, from 0.19 to 123.45 hPa.
+// The dew point of e, where it is within its limits.
 pub fn dew_point(e: VapourPressure) -> Dew
     ensures { λ r. ⌜ IsDew (e .0) r ⌝ }
 {
     let pressure = e.0;
-    if pressure < 19 {
-        return Dew::OutsideRange;
-    }
-    if pressure > 12345 {
+    if !VapourPressure::holds(pressure) {
         return Dew::OutsideRange;
     }
     let table = THRESHOLDS;
     let i = dew_place(&table, pressure as u16);
     let t = Number::whole(i).minus(Number { v: 400 });
     Dew::Point(DewTemperature(t.keep()))
+}
+
+// The relative humidity of air with e at a saturation, rounded to 1 %; 0 where there is no saturation.
+pub fn relative_humidity(e: VapourPressure, saturation: VapourPressure) -> u64
+    ensures { λ r. ⌜ r ≡ relativeHumidity (e .0) (saturation .0) ⌝ }
+{
+    let whole = saturation.0 as u64;
+    if whole == 0 {
+        return 0;
+    }
+    let half = whole;
+    (2 * (100 * (e.0 as u64)) + half) / (2 * whole)
+}
+
+// The deficit of air with e at a saturation; 0 where e is the larger.
+pub fn deficit(e: VapourPressure, saturation: VapourPressure) -> VapourPressure
+    ensures { λ r. ⌜ r .0 ≡ vapourDeficit (e .0) (saturation .0) ⌝ }
+{
+    if saturation.0 < e.0 {
+        return VapourPressure(0);
+    }
+    VapourPressure(saturation.0 - e.0)
 }

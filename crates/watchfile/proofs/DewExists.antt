@@ -8,15 +8,15 @@ use native.Mathlib.Omega.{arith}
 use native.Mathlib.Decide.{decLe, decLt}
 use native.Mathlib.Nat.{lt-of-not-le, not-suc-le-zero}
 use native.Mathlib.Numerals.{add-one}
-use lib.Dec.{T, leb}
+use lib.Dec.{T}
 use lib.Ieee.Fits.{and-l, and-r}
 use lib.IntN.{ℤ, pos, negsuc}
-use borrow.Author.Tests.{leb-true, le-ltb, lt-ltb, le-leb}
-use Rattle.number.proofs.Sizes.{and-true}
+use borrow.Author.Tests.{le-ltb, lt-ltb, le-leb}
 use Rattle.quantity.specs.Limits.{inside, bulb}
 use Rattle.vapour.specs.Exp.{top, bottom}
-use Rattle.vapour.specs.Vapour.{Below, DewPoint, recordedVapour, water}
+use Rattle.vapour.specs.Vapour.{Below, DewPoint, lowestVapour, recordedVapour, water}
 use Rattle.vapour.specs.Tables.{tenth, Least}
+use Rattle.vapour.proofs.RangeLaws.{range-then}
 use Rattle.vapour.proofs.DewLaws.{under, least-test, least-by-test, next}
 
 -- ---- the least hundredth at each tenth
@@ -71,11 +71,9 @@ scan e (suc n) h first b =
 ends : (e : ℕ) → recordedVapour e ≡ true → (Below water (under (tenth 0)) e 1 → ⊥) × Below water (under (tenth 901)) e 1
 unfolding least
 ends e h =
-    let r = and-true (leb 19 e) (leb e 12345) h in
-    let first : least 0 ≡ 19 = refl in
+    let r = range-then e h in
+    let first : least 0 ≡ lowestVapour = refl in
     let last : least 901 ≡ 12376 = refl in
-    let low = leb-true 19 e (r .0) in
-    let high = leb-true e 12345 (r .1) in
     (least-is 0 (omega arith) .reached e (omega arith), least-is 901 (omega arith) .short e (omega arith))
 
 -- the place of a dew point

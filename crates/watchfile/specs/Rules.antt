@@ -1,12 +1,11 @@
 -- The rules of single fields (document 01, "Watch file").
 use mathlib.Core.Bool.{Bool, true, _&&_, cond}
-use Prim.Native.Nat.{ℕ, _+_, _-_, _*_}
+use Prim.Native.Nat.{ℕ, _+_, _*_}
 use lib.Dec.{leb, ltb, eqb}
-use lib.IntN.{ℤ, pos, negℤ}
-use Rattle.number.specs.Round.{nearest}
+use lib.IntN.{ℤ, pos}
 use Rattle.number.specs.Whole.{within}
-use Rattle.vapour.specs.Vapour.{recordedVapour}
-use Rattle.quantity.specs.Limits.{Limits, inside, recordedPressure, lastMinute}
+use Rattle.vapour.specs.Vapour.{lowestVapour, recordedVapour, relativeHumidity, vapourDeficit}
+use Rattle.quantity.specs.Limits.{inside, recordedPressure, pressureChange, trueWind, degrees, lastMinute, threeHours, minutesBetween}
 
 -- "Kind: 1 pressure, 2 tendency, 3 wind, 4 humidity"
 unfoldable pub kindRight : ℕ → Bool
@@ -23,41 +22,38 @@ rank minute kind = 8 * minute + kind
 -- "Minutes are at most 16,777,215." "one that doesn't [rise] is wrong at its minute"; of a tendency "minute at least 180"
 unfoldable pub minuteRight : ℕ → ℕ → ℕ → Bool
 minuteRight before kind minute =
-    leb minute lastMinute && ltb before (rank minute kind) && cond (eqb kind 2) (leb 180 minute) true
+    leb minute lastMinute && ltb before (rank minute kind) && cond (eqb kind 2) (leb threeHours minute) true
 
 -- "1 pressure: 8000 to 11500 tenths hPa"
 unfoldable pub pressureRight : ℕ → Bool
 pressureRight p = inside recordedPressure (pos p)
 
 -- "2 tendency: -3000 to 3000; absent 0 to 179"
-abbrev pub recordedChange : Limits
-recordedChange = record { low = negℤ (pos 3000); high = pos 3000 }
-
 unfoldable pub changeRight : ℤ → Bool
-changeRight change = inside recordedChange change
+changeRight change = inside pressureChange change
 
 unfoldable pub absentRight : ℕ → Bool
-absentRight absent = leb absent 179
+absentRight absent = leb absent minutesBetween
 
 -- "3 wind: speed 0 to 956; direction 0 to 360, 0 exactly when speed is 0"
 unfoldable pub speedRight : ℕ → Bool
-speedRight speed = leb speed 956
+speedRight speed = inside trueWind (pos speed)
 
 unfoldable pub directionRight : ℕ → ℕ → Bool
-directionRight speed direction = cond (eqb speed 0) (eqb direction 0) (leb 1 direction && leb direction 360)
+directionRight speed direction = cond (eqb speed 0) (eqb direction 0) (leb 1 direction && inside degrees (pos direction))
 
 -- "4 humidity: e 19 to saturation, saturation 19 to 12345, the other three as their rules give"
 unfoldable pub eRight : ℕ → ℕ → Bool
-eRight saturation e = leb 19 e && leb e saturation
+eRight saturation e = leb lowestVapour e && leb e saturation
 
 unfoldable pub saturationRight : ℕ → Bool
-saturationRight saturation = leb 19 saturation && leb saturation 12345
+saturationRight saturation = recordedVapour saturation
 
 unfoldable pub deficitRight : ℕ → ℕ → ℕ → Bool
-deficitRight e saturation deficit = eqb deficit (saturation - e)
+deficitRight e saturation deficit = eqb deficit (vapourDeficit e saturation)
 
 unfoldable pub relativeRight : ℕ → ℕ → ℕ → Bool
-relativeRight e saturation relative = ltb 0 saturation && eqb relative (nearest (100 * e) saturation)
+relativeRight e saturation relative = eqb relative (relativeHumidity e saturation)
 
 unfoldable pub dewRight : (ℕ → ℤ) → ℕ → ℤ → Bool
 dewRight dew e at = recordedVapour e && within (dew e) (dew e) at

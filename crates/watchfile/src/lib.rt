@@ -7,7 +7,9 @@ ghost use Rattle.watchfile.specs.Rules.{kindRight, sizeOf, rank, minuteR
 ghost use Rattle.watchfile.specs.Format.{DewRule, kindOf, bodyRight, recordRight};
 use number::Kept;
 use number::Number;
+use quantity::Degrees;
 use quantity::Hectopascals;
+use quantity::MetresPerSecond;
 use quantity::Minute;
 use vapour::Dew;
 use vapour::VapourPressure;
@@ -112,7 +114,7 @@ pub fn minute_right(before: u64, kind: u8, minute: u32) -> bool
         return false;
     }
     if kind == 2 {
-        return 180 <= minute;
+        return Minute::THREE_HOURS <= minute;
     }
     true
 }
@@ -124,30 +126,25 @@ pub fn pressure_right(pressure: u16) -> bool
     Hectopascals::recorded(Number::whole(pressure as u32))
 }
 
-// The limits of a change, in tenths of hPa.
-pub const CHANGE_LOW: Number = Number { v: -3000 };
-
-pub const CHANGE_HIGH: Number = Number { v: 3000 };
-
 // Whether a change may stand in a file.
 pub fn change_right(change: Kept) -> bool
     ensures { λ r. ⌜ r ≡ changeRight (change .v) ⌝ }
 {
-    change.number().within(CHANGE_LOW, CHANGE_HIGH)
+    Hectopascals::changes(change.number())
 }
 
 // Whether a number of absent minutes may stand in a file.
 pub fn absent_right(absent: u8) -> bool
     ensures { λ r. ⌜ r ≡ absentRight absent ⌝ }
 {
-    absent <= 179
+    (absent as u32) <= Minute::BETWEEN
 }
 
 // Whether a speed may stand in a file.
 pub fn speed_right(speed: u16) -> bool
     ensures { λ r. ⌜ r ≡ speedRight speed ⌝ }
 {
-    speed <= 956
+    MetresPerSecond::blows(speed as u32)
 }
 
 // Whether a direction may stand beside a speed.
@@ -157,42 +154,40 @@ pub fn direction_right(speed: u16, direction: u16) -> bool
     if speed == 0 {
         return direction == 0;
     }
-    1 <= direction && direction <= 360
+    1 <= direction && Degrees::holds(Number::whole(direction as u32))
 }
 
 // Whether e may stand beside a saturation.
 pub fn e_right(saturation: u16, e: u16) -> bool
     ensures { λ r. ⌜ r ≡ eRight saturation e ⌝ }
 {
-    19 <= e && e <= saturation
+    VapourPressure::LOW <= (e as u32) && e <= saturation
 }
 
 // Whether a saturation may stand in a file.
 pub fn saturation_right(saturation: u16) -> bool
     ensures { λ r. ⌜ r ≡ saturationRight saturation ⌝ }
 {
-    19 <= saturation && saturation <= 12345
+    VapourPressure::holds(saturation as u32)
 }
 
-// Whether a deficit is saturation less e.
+// Whether a deficit is that of e at a saturation.
 pub fn deficit_right(e: u16, saturation: u16, deficit: u16) -> bool
     ensures { λ r. ⌜ r ≡ deficitRight e saturation deficit ⌝ }
 {
-    if saturation < e {
-        return deficit == 0;
-    }
-    deficit == saturation - e
+    let rule = vapour::deficit(VapourPressure(e as u32), VapourPressure(saturation as u32));
+    (deficit as u32) == rule.0
 }
 
-// Whether a relative humidity is 100 e over saturation, rounded.
+// Whether a relative humidity is that of e at a saturation.
 pub fn relative_right(e: u16, saturation: u16, relative: u8) -> bool
     ensures { λ r. ⌜ r ≡ relativeRight e saturation relative ⌝ }
 {
-    if saturation == 0 {
-        return false;
-    }
-    let percent = Number::whole(100 * (e as u32)).over(saturation as u64);
-    (relative as u64) == percent.size()
+    let rule = vapour::relative_humidity(
+        VapourPressure(e as u32),
+        VapourPressure(saturation as u32),
+    );
+    (relative as u64) == rule
 }
 
 // Whether a dew point is that of e.

@@ -8,12 +8,13 @@ use native.Mathlib.Omega.{arith}
 use lib.Dec.{leb→le, ltb→lt, le→leb, lt→ltb}
 use lib.IntN.{pos}
 use borrow.Author.Tests.{le-leb, leb-true, leb-false}
+use Rattle.quantity.specs.Limits.{highestWind}
 use Rattle.quantity.specs.Convert.{partsOfMetres}
 use Rattle.sine.specs.Sine.{cosine, Parts}
 use Rattle.sine.proofs.EveryNumber.{le-or-lt}
 use Rattle.sine.proofs.SineLaws.{parts-size, cosine-small}
 use Rattle.wind.specs.Wind.{sum, halfTenth, Nearest}
-use Rattle.wind.specs.Work.{Root, reaches}
+use Rattle.wind.specs.Work.{mostShip, mostApparent, tooMany, Root, reaches}
 use Rattle.wind.proofs.BisectionLaws.{Falls, Sought}
 use Rattle.wind.proofs.DifferenceLaws.{difference, sub-up}
 
@@ -43,20 +44,20 @@ enough s k up h = omega (arith, mul-le-mul-left (2 * (s * k)) h, mul-le-mul-left
 
 -- what the code multiplies and adds, in its limits
 pub record Products (s k up down : ℕ) : Type 0 where
-  pub ships : s * s ≤ 257200 * 257200
-  pub winds : k * k ≤ 937500 * 937500
-  pub both : s * k ≤ 257200 * 937500
-  pub plus : 2 * (s * k) * down ≤ 482250000000 * 1000000
+  pub ships : s * s ≤ mostShip * mostShip
+  pub winds : k * k ≤ mostApparent * mostApparent
+  pub both : s * k ≤ mostShip * mostApparent
+  pub plus : 2 * (s * k) * down ≤ 2 * (mostShip * mostApparent) * 1000000
   pub minus : 2 * (s * k) * up ≤ 1000000 * (s * s + k * k)
 
-pub products : (s k up down : ℕ) → s ≤ 257200 → k ≤ 937500 → up + down ≤ 1000000 → Products s k up down
+pub products : (s k up down : ℕ) → s ≤ mostShip → k ≤ mostApparent → up + down ≤ 1000000 → Products s k up down
 products s k up down hs hk h =
-    let both : s * k ≤ 257200 * 937500 = mul-le-mul hs hk in
+    let both : s * k ≤ mostShip * mostApparent = mul-le-mul hs hk in
     record {
       ships = square hs;
       winds = square hk;
       both = both;
-      plus = mul-le-mul {n₂ = 482250000000} {m₂ = 1000000} (omega arith) (omega arith);
+      plus = mul-le-mul {n₂ = 2 * (mostShip * mostApparent)} {m₂ = 1000000} (omega arith) (omega arith);
       minus = enough s k up (omega arith);
     }
 
@@ -90,7 +91,7 @@ module _ (s k r : ℕ) {up down : ℕ} (p : Parts (cosine (2 * r)) up down) wher
   pub cosine-most : up + down ≤ 1000000
   cosine-most = omega (arith, parts-size (cosine (2 * r)) p, cosine-small (2 * r))
 
-  sum-is : sum s k r ≡ pos (million s k up down)
+  pub sum-is : sum s k r ≡ pos (million s k up down)
   unfolding sum million
   sum-is =
       difference (1000000 * (s * s + k * k)) (2 * (s * k)) (cosine (2 * r))
@@ -121,14 +122,14 @@ one-root n v w a b =
     ⊎-elim (λ x. ⊎-elim (λ y. omega arith) (λ y. absurd (not-less n v w a b y)) (le-or-lt w v)) (λ y. absurd (not-less n w v b a y))
     (le-or-lt v w)
 
--- "speed 2, 0 to 956": 1913² squares of 0.05 m/s are more than any sum
-pub root-most : (n v : ℕ) → n < 1913 * 1913 → Root n v → v ≤ 956
+-- "speed 2, 0 to 956": a root of fewer squares than would take it above
+pub root-most : (n v : ℕ) → n < tooMany → Root n v → v ≤ highestWind
 root-most n v h a =
-    ⊎-elim (λ x. x) (λ y. absurd (omega (arith, a .low (omega arith), square {m = 1913} {n = 2 * v - 1} (omega arith)))) (le-or-lt v 956)
+    ⊎-elim (λ x. x) (λ y. absurd (omega (arith, a .low (omega arith), square {m = 2 * highestWind + 1} {n = 2 * v - 1} (omega arith)))) (le-or-lt v highestWind)
 
-pub million-small : (s k up down : ℕ) → s ≤ 257200 → k ≤ 937500 → down ≤ 1000000 → million s k up down / 390625000000 < 1913 * 1913
+pub million-small : (s k up down : ℕ) → s ≤ mostShip → k ≤ mostApparent → down ≤ 1000000 → million s k up down / 390625000000 < tooMany
 million-small s k up down hs hk h =
-    omega (arith, million-most s k up down h, square {m = s + k} {n = 1194700} (omega arith))
+    omega (arith, million-most s k up down h, square {m = s + k} {n = mostShip + mostApparent} (omega arith))
 
 -- ---- the root by bisection
 
@@ -137,7 +138,7 @@ unfolding reaches
 reaches-falls n m i j h k e =
     le-leb ((2 * i + 1) * (2 * i + 1)) n (omega (arith, square {m = 2 * i + 1} {n = 2 * j + 1} (omega arith), leb-true ((2 * j + 1) * (2 * j + 1)) n e))
 
-pub root-sought : (n v left : ℕ) → n < 1913 * 1913 → left ≡ 0 → Sought (reaches n) 956 v left → Root n v
+pub root-sought : (n v left : ℕ) → n < tooMany → left ≡ 0 → Sought (reaches n) highestWind v left → Root n v
 unfolding reaches
 root-sought n zero left h e s =
     record { low = λ some. absurd (omega arith); high = leb-false ((2 * 0 + 1) * (2 * 0 + 1)) n (s .no 0 (omega arith) (omega arith)) }
@@ -146,7 +147,7 @@ root-sought n (suc u) left h e s =
     record {
       low = λ some. rw edge (leb-true ((2 * u + 1) * (2 * u + 1)) n (s .yes u (omega arith)));
       high =
-          ⊎-elim (λ most. omega (arith, square {m = 1913} {n = 2 * suc u + 1} (omega arith)))
+          ⊎-elim (λ most. omega (arith, square {m = 2 * highestWind + 1} {n = 2 * suc u + 1} (omega arith)))
           (λ less. leb-false ((2 * suc u + 1) * (2 * suc u + 1)) n (s .no (suc u) (omega arith) less))
-          (le-or-lt 956 (suc u));
+          (le-or-lt highestWind (suc u));
     }

@@ -3,7 +3,24 @@
 use mathlib.Core.Bool.{Bool}
 use Prim.Native.Nat.{ℕ, _+_, _-_, _*_, _≤_, _<_}
 use lib.Dec.{leb}
+use lib.IntN.{natAbs}
+use Rattle.quantity.specs.Limits.{knots, metresPerSecond, highestWind}
+use Rattle.quantity.specs.Convert.{partsOfKnots, partsOfMetres}
 use Rattle.sine.specs.Sine.{entry}
+
+-- The most that the ship's speed and the apparent wind's come to in parts, by their limits, and either side of a mark's test.
+abbrev pub mostShip : ℕ
+mostShip = partsOfKnots (natAbs (knots .high))
+
+abbrev pub mostApparent : ℕ
+mostApparent = partsOfMetres (natAbs (metresPerSecond .high))
+
+abbrev pub mostSide : ℕ
+mostSide = 1000000 * (mostShip + mostApparent)
+
+-- The squares of 0.05 m/s in the square of half a tenth more than the highest true wind: no sum has as many.
+abbrev pub tooMany : ℕ
+tooMany = (2 * highestWind + 1) * (2 * highestWind + 1)
 
 -- v is the nearest tenth of m/s to the root of n squares of 0.05 m/s.
 pub record Root (n v : ℕ) : Type 0 where

@@ -2,11 +2,11 @@
 // Speeds are in parts of 1/12500 m/s, sines and cosines in millionths.
 ghost use mathlib.Core.Path.{_≡_};
 ghost use mathlib.Core.Bool.{cond};
-ghost use Prim.Native.Nat.{_+_, _*_, _-_, _≤_, _<_};
+ghost use Prim.Native.Nat.{_+_, _≤_, _<_};
 ghost use lib.IntN.{pos};
-ghost use Rattle.quantity.specs.Limits.{inside, degrees, knots, metresPerSecond};
+ghost use Rattle.quantity.specs.Limits.{inside, degrees, knots, metresPerSecond, highestWind};
 ghost use Rattle.wind.specs.Wind.{Nearest, count, between, turned, compass, from};
-ghost use Rattle.wind.specs.Work.{Root, reaches, leans};
+ghost use Rattle.wind.specs.Work.{mostShip, mostApparent, mostSide, tooMany, Root, reaches, leans};
 ghost use Rattle.wind.specs.Answer.{withinLimits, IsWind};
 use number::Number;
 use quantity::Degrees;
@@ -23,7 +23,7 @@ pub enum TrueWind {
 
 // One turn of a bisection: what is found so far, and half of what is left where the test says yes.
 fn further(yes: bool, found: u32, half: u32) -> u32
-    requires { ⌜ (found ≤ 956) × (half ≤ 956) ⌝ }
+    requires { ⌜ (found ≤ highestWind) × (half ≤ highestWind) ⌝ }
     ensures { λ r. ⌜ r ≡ cond yes (found + half) found ⌝ }
 {
     if yes {
@@ -34,20 +34,20 @@ fn further(yes: bool, found: u32, half: u32) -> u32
 
 // Whether the root of n squares of 0.05 m/s is i tenths and a half, or more.
 fn reaches(n: u32, i: u32) -> bool
-    requires { ⌜ i < 956 ⌝ }
+    requires { ⌜ i < highestWind ⌝ }
     ensures { λ r. ⌜ r ≡ reaches n i ⌝ }
 {
     let e = 2 * i + 1;
     e * e <= n
 }
 
-// The nearest tenth of m/s to the root of n squares of 0.05 m/s, 956 at most, by bisection: ten turns.
+// The nearest tenth of m/s to the root of n squares of 0.05 m/s, up to the highest true wind, by bisection: ten turns.
 fn root(n: u32) -> u32
-    requires { ⌜ n < 1913 * 1913 ⌝ }
+    requires { ⌜ n < tooMany ⌝ }
     ensures { λ v. ⌜ Root n v ⌝ }
 {
     let mut found: u32 = 0;
-    let mut left: u32 = 956;
+    let mut left: u32 = MetresPerSecond::TRUE_HIGH;
     while left > 0 {
         let half = (left + 1) / 2;
         found = further(reaches(n, found + half - 1), found, half);
@@ -58,7 +58,7 @@ fn root(n: u32) -> u32
 
 // The speed of the true wind in tenths of m/s. A square of 0.05 m/s is 625² square parts, each a million times.
 fn speed(s: u64, k: u64, r: u32) -> u32
-    requires { ⌜ (s ≤ 257200) × (k ≤ 937500) × (r < 360) ⌝ }
+    requires { ⌜ (s ≤ mostShip) × (k ≤ mostApparent) × (r < 360) ⌝ }
     ensures { λ v. ⌜ Nearest s k r v ⌝ }
 {
     let c = sine::cosine(2 * r);
@@ -70,7 +70,7 @@ fn speed(s: u64, k: u64, r: u32) -> u32
 
 // Whether mark i of a quarter turn counts: a times its cosine is at least b times its sine.
 fn leans(a: u64, b: u64, i: u32) -> bool
-    requires { ⌜ (a ≤ 1194700000000) × (b ≤ 1194700000000) × (i < 90) ⌝ }
+    requires { ⌜ (a ≤ mostSide) × (b ≤ mostSide) × (i < 90) ⌝ }
     ensures { λ r. ⌜ r ≡ leans a b i ⌝ }
 {
     b * sine::entry(2 * i + 1) <= a * sine::entry(179 - 2 * i)
@@ -78,7 +78,7 @@ fn leans(a: u64, b: u64, i: u32) -> bool
 
 // How many marks of a quarter turn count, by bisection: seven turns.
 fn quarter(a: u64, b: u64) -> u32
-    requires { ⌜ (a ≤ 1194700000000) × (b ≤ 1194700000000) ⌝ }
+    requires { ⌜ (a ≤ mostSide) × (b ≤ mostSide) ⌝ }
     ensures { λ r. ⌜ (r ≡ count (leans a b) 90) × (r ≤ 90) ⌝ }
 {
     let mut found: u32 = 0;
@@ -93,7 +93,7 @@ fn quarter(a: u64, b: u64) -> u32
 
 // The angle between the two winds. Where N > 0 no mark of the second quarter turn counts, else all of the first do.
 fn angle(s: u64, k: u64, r: u32) -> u32
-    requires { ⌜ (s ≤ 257200) × (k ≤ 937500) × (r < 360) ⌝ }
+    requires { ⌜ (s ≤ mostShip) × (k ≤ mostApparent) × (r < 360) ⌝ }
     ensures { λ a. ⌜ (a ≡ between s k r) × (a ≤ 180) ⌝ }
 {
     let c = sine::cosine(2 * r);

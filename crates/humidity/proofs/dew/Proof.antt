@@ -1,17 +1,11 @@
 -- `dew` meets its contract: an e in the range has a dew point. Assumes nothing.
 use mathlib.Core.Path.{_≡_}
-use Prim.Native.Nat.{ℕ, _≤_}
-use mathlib.Core.Bool.{true}
+use Prim.Native.Nat.{ℕ}
 use native.Mathlib.Omega.{arith}
-use borrow.Author.Tests.{le-leb}
-use Rattle.vapour.specs.Vapour.{recordedVapour}
 use borrow.Author.Needs.{needs}
 use Rattle.humidity.proofs.dew.Statement.{statement}
 use Rattle.humidity.proofs.dew.Tie as tie
 use Rattle.vapour.proofs.dew_point.Reads as dew-point-reads
-
-in-range : (e : ℕ) → 19 ≤ e → e ≤ 12345 → recordedVapour e ≡ true
-in-range e l h = rw (le-leb 19 e l, le-leb e 12345 h)
 
 dew-point-requires : tie.Need-dew-point-requires
 dew-point-requires c κs = search needs
@@ -29,7 +23,7 @@ returns-2 : tie.Need-returns-2
 returns-2 c =
     let start = c .before .before .before in
     let out = rw (c .enum-told .given .1) at (c .before .before .dew-point .ensures) in
-    absurd (let z : _≡_ {A = ℕ} 0 1 = cc (in-range (start .args .e) (start .pre .0) (start .pre .1)) in omega arith)
+    absurd (let z : _≡_ {A = ℕ} 0 1 = cc (start .pre) in omega arith)
 
 pub dew-spec : {M : Type 1} → statement M
 dew-spec = tie.close (tie.spec dew-point-requires enum-known-t enum-told returns returns-2)

@@ -3,15 +3,15 @@
 use mathlib.Core.Path.{_≡_}
 use Prim.Native.Nat.{_+_, _-_, _/_, _<_, _≤_}
 use native.Mathlib.Omega.{arith}
-use Rattle.vapour.specs.Vapour.{Below, water}
+use Rattle.vapour.specs.Vapour.{Below, lowestVapour, water}
 use Rattle.vapour.specs.Tables.{tenth, Least}
 use Rattle.vapour.proofs.DewLaws.{under, least-test, least-by-test, next}
 use Rattle.vapour.proofs.dew_place.Statement.{statement}
 use Rattle.vapour.proofs.dew_place.Tie as tie
 
-first : Least 0 19
+first : Least 0 lowestVapour
 unfolding least-test
-first = least-by-test 0 19 tt
+first = least-by-test 0 lowestVapour tt
 
 last : Least 901 12376
 unfolding least-test

@@ -1,22 +1,17 @@
--- `deficit_right` meets its contract: above saturation nothing is left to subtract. Assumes nothing.
-use borrow.Author.Needs.{needs}
-use mathlib.Core.Path.{_≡_, ap}
-use Prim.Native.Nat.{_-_}
+-- `deficit_right` meets its contract: it is vapour's deficit. Assumes nothing.
+use mathlib.Core.Path.{ap}
 use lib.Dec.{eqb}
-use native.Mathlib.Omega.{arith}
 use Rattle.watchfile.specs.Rules.{deficitRight}
+use borrow.Author.Needs.{needs}
 use Rattle.watchfile.proofs.deficit_right.Statement.{statement}
 use Rattle.watchfile.proofs.deficit_right.Tie as tie
 
+deficit-requires : tie.Need-deficit-requires
+deficit-requires c κs = search needs
+
 returns : tie.Need-returns
 unfolding deficitRight
-returns c =
-    let none : 0 ≡ c .before .args .saturation - c .before .args .e = omega arith in
-    ap (eqb (c .before .args .deficit)) none
-
-returns-2 : tie.Need-returns-2
-unfolding deficitRight
-returns-2 c = search needs
+returns c = ap (eqb (c .before .before .args .deficit)) (c .before .deficit .ensures)
 
 pub deficit-right-spec : {M : Type 1} → statement M
-deficit-right-spec = tie.close (tie.spec returns returns-2)
+deficit-right-spec = tie.close (tie.spec deficit-requires returns)

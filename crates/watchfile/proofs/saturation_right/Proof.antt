@@ -1,16 +1,15 @@
--- `saturation_right` meets its contract: each bound in turn. Assumes nothing.
-use borrow.Author.Tests.{le-leb, lt-leb}
+-- `saturation_right` meets its contract: its rule, opened. Assumes nothing.
 use Rattle.watchfile.specs.Rules.{saturationRight}
+use borrow.Author.Needs.{needs}
 use Rattle.watchfile.proofs.saturation_right.Statement.{statement}
 use Rattle.watchfile.proofs.saturation_right.Tie as tie
 
+holds-requires : tie.Need-holds-requires
+holds-requires c κs = search needs
+
 returns : tie.Need-returns
 unfolding saturationRight
-returns c = simp (le-leb _ _ (c .if1 .taken))
-
-returns-2 : tie.Need-returns-2
-unfolding saturationRight
-returns-2 c = simp (lt-leb _ _ (c .if1 .left))
+returns c = search needs
 
 pub saturation-right-spec : {M : Type 1} → statement M
-saturation-right-spec = tie.close (tie.spec returns returns-2)
+saturation-right-spec = tie.close (tie.spec holds-requires returns)

@@ -5,6 +5,7 @@ use native.Mathlib.Nat.{mul-le-mul}
 use native.Mathlib.Omega.{arith}
 use Rattle.sine.specs.Sine.{sine}
 use Rattle.sine.proofs.SineLaws.{parts-size, sine-small}
+use Rattle.wind.specs.Work.{mostShip, mostApparent}
 use Rattle.wind.proofs.SpeedLaws.{cosine-most}
 use Rattle.wind.proofs.AngleLaws.{N-ahead, N-astern, M-is, angle-ahead, angle-astern}
 use borrow.Author.Needs.{needs}
@@ -17,10 +18,10 @@ use Rattle.wind.proofs.quarter.Reads as quarter-reads
 -- the products, in their limits
 record Bounds (s k sines up down : ℕ) : Type 0 where
   size : sines ≤ 1000000
-  across : s * sines ≤ 257200 * 1000000
-  along : s * up ≤ 257200 * 1000000
-  against : s * down ≤ 257200 * 1000000
-  wind : k ≤ 937500
+  across : s * sines ≤ mostShip * 1000000
+  along : s * up ≤ mostShip * 1000000
+  against : s * down ≤ mostShip * 1000000
+  wind : k ≤ mostApparent
 
 bounds : (c : tie.After-sine) → Bounds (c .before .before .args .s) (c .before .before .args .k) (c .sine .result .up + c .sine .result .down) (c .before .cosine .result .up) (c .before .cosine .result .down)
 bounds c =

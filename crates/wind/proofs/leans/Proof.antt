@@ -5,13 +5,13 @@ use native.Mathlib.Nat.{mul-le-mul}
 use native.Mathlib.Omega.{arith}
 use Rattle.sine.specs.Sine.{entry}
 use Rattle.sine.proofs.TableLaws.{small}
-use Rattle.wind.specs.Work.{leans}
+use Rattle.wind.specs.Work.{mostSide, leans}
 use borrow.Author.Needs.{needs}
 use Rattle.wind.proofs.leans.Statement.{statement}
 use Rattle.wind.proofs.leans.Tie as tie
 use Rattle.sine.proofs.entry.Reads as entry-reads
 
-product : (i : ℕ) {x r : ℕ} → x ≤ 1194700000000 → r ≡ entry i → x * r ≤ 1194700000000 * 1000000
+product : (i : ℕ) {x r : ℕ} → x ≤ mostSide → r ≡ entry i → x * r ≤ mostSide * 1000000
 product i {x} {r} h e = mul-le-mul {m₂ = 1000000} h (omega (arith, small i))
 
 mul-entry : tie.Need-mul-entry

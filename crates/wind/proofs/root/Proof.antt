@@ -1,5 +1,6 @@
 -- `root` meets its contract: each turn is one of `BisectionLaws`. Assumes nothing.
 use native.Mathlib.Omega.{arith}
+use Rattle.quantity.specs.Limits.{highestWind}
 use Rattle.wind.specs.Work.{reaches}
 use Rattle.wind.proofs.BisectionLaws.{Sought, start, turn}
 use Rattle.wind.proofs.SpeedLaws.{reaches-falls, root-sought}
@@ -9,13 +10,13 @@ use Rattle.wind.proofs.further.Reads as further-reads
 use Rattle.wind.proofs.reaches.Reads as reaches-reads
 
 abbrev Inv-loop : tie.InvT-loop
-Inv-loop n found₀ left₀ found left = Sought (reaches n) 956 found left
+Inv-loop n found₀ left₀ found left = Sought (reaches n) highestWind found left
 
 abbrev μ-loop : tie.MeasureT-loop
 μ-loop n found₀ left₀ found left = left
 
 loop-holds : tie.Need-loop-holds Inv-loop μ-loop
-loop-holds c = start (reaches (c .args .n)) 956
+loop-holds c = start (reaches (c .args .n)) highestWind
 
 add-half : tie.Need-add-half Inv-loop μ-loop
 add-half c = omega (arith, c .before .loop .inv .within)
@@ -41,7 +42,7 @@ loop-less c = omega arith
 loop-again : tie.Need-loop-again Inv-loop μ-loop
 loop-again c =
     let at = c .before .before .before in
-    let next = turn (reaches (at .before .args .n)) 956 (reaches-falls (at .before .args .n) 956) (at .loop .found) (at .loop .left) (omega arith) (at .loop .inv) in
+    let next = turn (reaches (at .before .args .n)) highestWind (reaches-falls (at .before .args .n) highestWind) (at .loop .found) (at .loop .left) (omega arith) (at .loop .inv) in
     rw (c .further .ensures, c .before .reaches .ensures) next
 
 returns : tie.Need-returns Inv-loop μ-loop

@@ -1,6 +1,7 @@
 -- `speed` meets its contract: the sum is a plain number, and each part of it fits. Assumes nothing.
-use Prim.Native.Nat.{_*_, _/_, _<_}
+use Prim.Native.Nat.{_/_, _<_}
 use native.Mathlib.Omega.{arith}
+use Rattle.wind.specs.Work.{tooMany}
 use Rattle.wind.proofs.SpeedLaws.{Products, products, million, million-small, cosine-most, nearest}
 use borrow.Author.Needs.{needs}
 use Rattle.wind.proofs.speed.Statement.{statement}
@@ -13,7 +14,7 @@ bounds c =
     let a = c .before .args in
     products (a .s) (a .k) (c .cosine .result .up) (c .cosine .result .down) (c .before .pre .0) (c .before .pre .1) (cosine-most (a .s) (a .k) (a .r) (c .cosine .ensures))
 
-small : (c : tie.After-cosine) → million (c .before .args .s) (c .before .args .k) (c .cosine .result .up) (c .cosine .result .down) / 390625000000 < 1913 * 1913
+small : (c : tie.After-cosine) → million (c .before .args .s) (c .before .args .k) (c .cosine .result .up) (c .cosine .result .down) / 390625000000 < tooMany
 small c =
     let a = c .before .args in
     million-small (a .s) (a .k) (c .cosine .result .up) (c .cosine .result .down) (c .before .pre .0) (c .before .pre .1) (omega (arith, cosine-most (a .s) (a .k) (a .r) (c .cosine .ensures)))

@@ -3,7 +3,9 @@ use mathlib.Core.Path.{_≡_, sym, _∙_}
 use mathlib.Core.Bool.{true}
 use Prim.Native.Nat.{_≤_}
 use native.Mathlib.Omega.{arith}
+use lib.IntN.{natAbs}
 use borrow.Author.Tests.{not-true, not-false}
+use Rattle.quantity.specs.Limits.{knots, metresPerSecond}
 use Rattle.wind.specs.Answer.{withinLimits}
 use Rattle.wind.proofs.LimitLaws.{speeds-most}
 use borrow.Author.Needs.{needs}
@@ -20,7 +22,7 @@ use Rattle.wind.proofs.within_limits.Reads as within-limits-reads
 inside : (c : tie.Else1) → withinLimits (c .before .before .args .course .0) (c .before .before .args .ship .0) (c .before .before .args .apparent .0) (c .before .before .args .from-bow .0) ≡ true
 inside c = sym (c .before .within-limits .ensures) ∙ not-false _ (c .if1 .left)
 
-most : (c : tie.Else1) → (c .before .before .args .ship .0 ≤ 400) × (c .before .before .args .apparent .0 ≤ 750)
+most : (c : tie.Else1) → (c .before .before .args .ship .0 ≤ natAbs (knots .high)) × (c .before .before .args .apparent .0 ≤ natAbs (metresPerSecond .high))
 most c =
     let a = c .before .before .args in
     speeds-most (a .course .0) (a .ship .0) (a .apparent .0) (a .from-bow .0) (inside c)
