@@ -6,11 +6,10 @@ use Prim.Native.Nat.{ℕ, suc, _+_, _-_, _≤_, _<_, min}
 use native.Mathlib.Omega.{arith}
 use native.Mathlib.Decide.{decLt}
 use lib.IntN.{ℤ}
-use lib.Dec.{lit<}
-use lib.ListN.{length, take, set, getD, replicate, length-take, length-set, List·getD-eq-default}
+use lib.ListN.{length, take, set, getD, replicate, length-take, length-set}
 use lib.Seq.{getD-take, take-all, take-take, take-suc, take-set-lt, take-at}
 use Rattle.number.specs.Refusal.{Test, Answer, refused, given, answer, Numbered, numbered}
-use Rattle.watchfile.specs.Bytes.{AreBytes}
+use Rattle.bytes.specs.Bytes.{AreBytes}
 use Rattle.watchfile.specs.Format.{recordRight, recordTests, rankOf, fileOf, reading, writing}
 use Rattle.watchfile.specs.declared.Record.{Record}
 use Rattle.reader.specs.Read.{verdictAs, counted, places, blank}
@@ -153,16 +152,6 @@ good-there rule s are v records count e w f = go (reading rule s) refl e w
         let g : _≡_ {A = Answer ℕ ℕ} (given count) (given (length rs)) = sym (ap verdictAs f) ∙ e in
         let k : length rs ≡ count = cc in
         (omega (arith, read-right rule s rs are is .few), is ∙ ap given (sym (ap (take count) w ∙ take-at rs (replicate (48 - length rs) blank) count k)))
-
-pub bytes-front : (s : List ℕ) (n : ℕ) → AreBytes s → AreBytes (take n s)
-bytes-front s n are i = go (decLt i n)
-  where
-    go : Dec (i < n) → getD (take n s) i 0 < 256
-    go (yes y) = rw (getD-take n s i 0 y) (are i)
-    go (no z) = rw (List·getD-eq-default (take n s) 0 (short-front (omega arith))) (lit< tt)
-      where
-        short-front : n ≤ i → length (take n s) ≤ i
-        short-front l = omega (arith, length-take n s)
 
 -- ---- what placing answers and leaves
 

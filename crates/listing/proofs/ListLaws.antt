@@ -11,12 +11,13 @@ use borrow.Author.Tests.{lt-ltb, le-ltb}
 use Rattle.number.specs.Refusal.{Answer, refused, given}
 use Rattle.text.specs.Text.{Put}
 use Rattle.text.proofs.PutLaws.{put-whole, behind-whole}
+use Rattle.bytes.specs.Bytes.{AreBytes}
 use Rattle.watchfile.specs.Format.{reading}
 use Rattle.watchfile.specs.declared.Record.{Record}
 use Rattle.reader.specs.Read.{counted, blank, places}
 use Rattle.listing.specs.declared.Listed.the-variants.{Text, TooShort}
 use Rattle.listing.specs.Listing.{recordLines, headLine, refusedLine, listingOf, TEXT, Lists}
-use Rattle.listing.proofs.FitLaws.{Bytes, count-fits, listing-fits}
+use Rattle.listing.proofs.FitLaws.{count-fits, listing-fits}
 
 -- ---- what was read
 
@@ -59,7 +60,7 @@ lists {before} {after} {listing} {k} h l p =
     }
 
 -- a file of bytes, and a buffer that has room
-module _ (before : List ℕ) {after : List ℕ} (dew : ℕ → ℤ) (s : List ℕ) (bytes : Bytes s) (long : length s < 10 ^ 20) (room : TEXT ≤ length before) where
+module _ (before : List ℕ) {after : List ℕ} (dew : ℕ → ℤ) (s : List ℕ) (bytes : AreBytes s) (long : length s < 10 ^ 20) (room : TEXT ≤ length before) where
   pub good-lists : {n k : ℕ} {all : List Record} → given n ≡ counted (reading dew s) → all ≡ places (reading dew s)
       → Put before after 0 (headLine n ++ recordLines (take n all)) k → Lists (listingOf (reading dew s)) before after (Text k)
   good-lists {n} {k} {all} v r p =
