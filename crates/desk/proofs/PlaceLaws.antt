@@ -10,9 +10,9 @@ use lib.ListN.{length, take, set, getD, replicate, length-take, length-set}
 use lib.Seq.{getD-take, take-all, take-take, take-suc, take-set-lt, take-at}
 use Rattle.number.specs.Refusal.{Test, Answer, refused, given, answer, Numbered, numbered}
 use Rattle.bytes.specs.Bytes.{AreBytes}
-use Rattle.watchfile.specs.Format.{recordRight, recordTests, rankOf, fileOf, reading, writing}
+use Rattle.watchfile.specs.Format.{blank, recordRight, recordTests, rankOf, fileOf, reading, writing}
 use Rattle.watchfile.specs.declared.Record.{Record}
-use Rattle.reader.specs.Read.{verdictAs, counted, places, blank}
+use Rattle.reader.specs.Read.{verdictAs, counted, places}
 use Rattle.reader.specs.declared.Verdict.{Verdict}
 use Rattle.reader.specs.declared.Verdict.the-variants.{Good, Broken}
 use Rattle.writer.specs.Write.{writtenAs, Wrote}

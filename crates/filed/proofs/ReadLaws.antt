@@ -1,13 +1,14 @@
 -- What the reader hands back is told: a good file's records at the first of the 48 places, a broken file's place. Assumes nothing.
-use mathlib.Core.Path.{_≡_, ap}
+use mathlib.Core.Path.{_≡_}
 use mathlib.Core.List.{List, _++_, map}
 use Prim.Native.Nat.{ℕ, _-_}
 use native.Mathlib.Omega.{arith}
 use lib.ListN.{length, take, replicate}
 use lib.Seq.{take-append-seam}
 use Rattle.number.specs.Refusal.{Answer, refused, given}
+use Rattle.watchfile.specs.Format.{blank}
 use Rattle.watchfile.specs.declared.Record.{Record}
-use Rattle.reader.specs.Read.{verdictAs, counted, blank, places, HandsBack}
+use Rattle.reader.specs.Read.{verdictAs, counted, places, HandsBack}
 use Rattle.reader.specs.declared.Verdict.{Verdict}
 use Rattle.reader.specs.declared.Verdict.the-variants.{Good, Broken}
 use Rattle.reader.specs.declared.FileRead.{FileRead}

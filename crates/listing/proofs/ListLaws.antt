@@ -12,9 +12,9 @@ use Rattle.number.specs.Refusal.{Answer, refused, given}
 use Rattle.text.specs.Text.{Put}
 use Rattle.text.proofs.PutLaws.{put-whole, behind-whole}
 use Rattle.bytes.specs.Bytes.{AreBytes}
-use Rattle.watchfile.specs.Format.{reading}
+use Rattle.watchfile.specs.Format.{blank, reading}
 use Rattle.watchfile.specs.declared.Record.{Record}
-use Rattle.reader.specs.Read.{counted, blank, places}
+use Rattle.reader.specs.Read.{counted, places}
 use Rattle.listing.specs.declared.Listed.the-variants.{Text, TooShort}
 use Rattle.listing.specs.Listing.{recordLines, headLine, refusedLine, listingOf, TEXT, Lists}
 use Rattle.listing.proofs.FitLaws.{count-fits, listing-fits}

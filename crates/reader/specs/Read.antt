@@ -4,7 +4,7 @@ use mathlib.Core.List.{List, _++_}
 use Prim.Native.Nat.{ℕ, _-_}
 use lib.ListN.{length, replicate}
 use Rattle.number.specs.Refusal.{Answer, refused, given}
-use Rattle.watchfile.specs.declared.Body.the-variants.{Pressure}
+use Rattle.watchfile.specs.Format.{blank}
 use Rattle.watchfile.specs.declared.Record.{Record}
 use Rattle.reader.specs.declared.Verdict.{Verdict}
 use Rattle.reader.specs.declared.Verdict.the-variants.{Good, Broken}
@@ -19,10 +19,6 @@ verdictAs (Broken place) = refused place
 abbrev pub counted : Answer ℕ (List Record) → Answer ℕ ℕ
 counted (refused place) = refused place
 counted (given rs) = given (length rs)
-
--- What stands where no record was read.
-abbrev pub blank : Record
-blank = record { minute = 0; body = Pressure 0 }
 
 -- The 48 places: the records and blanks behind them. "A refusal returns its number, the extra shown, and no figure."
 abbrev pub places : Answer ℕ (List Record) → List Record

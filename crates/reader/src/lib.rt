@@ -10,6 +10,7 @@ ghost use Rattle.bytes.specs.Bytes.{le16, le32};
 ghost use Rattle.watchfile.specs.Format.{DewRule, pressureFields, tendencyFields, windFields, humidityFields, bodyFields, startOf, reading};
 ghost use Rattle.reader.specs.Read.{verdictAs, HandsBack};
 ghost use Rattle.reader.specs.Work.{derivedFields, BodyFound, RowFound, contentsOf, bodiesOf};
+use watchfile::BLANK;
 use watchfile::Body;
 use watchfile::RECORDS;
 use watchfile::Record;
@@ -291,13 +292,9 @@ fn contents(file: &[u8], count: usize) -> Verdict
 fn broken(place: usize) -> FileRead
     ensures { λ r. ⌜ HandsBack (refused place) r ⌝ }
 {
-    let blank = Record {
-        minute: 0,
-        body: Body::Pressure(0),
-    };
     FileRead {
         verdict: Verdict::Broken(place),
-        records: [blank; RECORDS],
+        records: [BLANK; RECORDS],
     }
 }
 
@@ -306,11 +303,7 @@ fn bodies(file: &[u8], count: usize) -> FileRead
     requires { ⌜ (count ≤ 48) × (contentsOf (now file) count ≡ given count) × (startOf count ≤ length (now file)) ⌝ }
     ensures { λ r. ⌜ ((rule : ℕ → ℤ) → DewRule rule → HandsBack (bodiesOf rule (now (file .entry)) count) r) ⌝ }
 {
-    let blank = Record {
-        minute: 0,
-        body: Body::Pressure(0),
-    };
-    let mut records = [blank; RECORDS];
+    let mut records = [BLANK; RECORDS];
     let mut i: usize = 0;
     let mut row: usize = 4;
     let mut end: usize = 4 + 8 * count;

@@ -21,6 +21,10 @@ use Rattle.watchfile.specs.declared.Record.{Record}
 abbrev pub DewRule : (ℕ → ℤ) → Type 0
 DewRule dew = (e : ℕ) → recordedVapour e ≡ true → DewPoint e (dew e)
 
+-- What stands at a place without a record.
+abbrev pub blank : Record
+blank = record { minute = 0; body = Pressure 0 }
+
 -- ---- bodies: s is the file from the body's offset on
 
 abbrev pub pressureFields : List ℕ → List Field
