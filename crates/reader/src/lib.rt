@@ -8,8 +8,8 @@ ghost use lib.ListN.{length};
 ghost use Rattle.number.specs.Refusal.{refused, given};
 ghost use Rattle.bytes.specs.Bytes.{le16, le32};
 ghost use Rattle.watchfile.specs.Format.{DewRule, pressureFields, tendencyFields, windFields, humidityFields, bodyFields, startOf, reading};
-ghost use Rattle.reader.specs.Read.{verdictAs, HandsBack};
-ghost use Rattle.reader.specs.Work.{derivedFields, BodyFound, RowFound, contentsOf, bodiesOf};
+ghost use Rattle.reader.specs.Read.{HandsBack};
+ghost use Rattle.reader.specs.Work.{derivedFields, BodyFound, RowFound, contentsAs, contentsOf, bodiesOf};
 use watchfile::BLANK;
 use watchfile::Body;
 use watchfile::RECORDS;
@@ -266,7 +266,7 @@ fn read_row(s: &[u8], next: usize, before: u64) -> RowRead
 // Whether the contents are right: so many records, or the place of the first wrong field.
 fn contents(file: &[u8], count: usize) -> Verdict
     requires { ⌜ (4 ≤ length (now file)) × (count ≤ 48) ⌝ }
-    ensures { λ r. ⌜ verdictAs r ≡ contentsOf (now (file .entry)) count ⌝ }
+    ensures { λ r. ⌜ contentsAs r ≡ contentsOf (now (file .entry)) count ⌝ }
 {
     let mut i: usize = 0;
     let mut at: usize = 4;

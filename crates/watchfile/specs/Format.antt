@@ -120,7 +120,11 @@ recordsFrom s (suc n) row at =
 abbrev pub records : List ℕ → List Record
 records s = recordsFrom s (countOf s) 4 (startOf (countOf s))
 
--- Reading a file: its records, or 18 with the place.
+-- 18: "file broken", with "place"
+abbrev pub brokenAt : ℕ → Numbered
+brokenAt place = numbered 18 (place ∷ [])
+
+-- Reading a file: its records, or the place where it is broken.
 unfoldable pub reading : (ℕ → ℤ) → List ℕ → Answer ℕ (List Record)
 reading dew s = answer (fieldTests (length s) (fields dew s)) (records s)
 
