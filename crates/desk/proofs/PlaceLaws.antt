@@ -6,16 +6,16 @@ use Prim.Native.Nat.{ℕ, suc, _+_, _-_, _≤_, _<_, min}
 use native.Mathlib.Omega.{arith}
 use native.Mathlib.Decide.{decLt}
 use lib.IntN.{ℤ}
-use lib.Dec.{lit<}
-use lib.ListN.{length, take, set, getD, replicate, length-take, length-set, List·getD-eq-default}
-use lib.Seq.{getD-take, take-all, take-take, take-suc, take-set-lt, take-at}
+use lib.ListN.{length, take, set, getD, length-take, length-set}
+use lib.Seq.{getD-take, take-all, take-take, take-suc, take-set-lt}
 use Rattle.number.specs.Refusal.{Test, Answer, refused, given, answer, Numbered, numbered}
-use Rattle.watchfile.specs.Bytes.{AreBytes}
-use Rattle.watchfile.specs.Format.{recordRight, recordTests, rankOf, fileOf, reading, writing}
+use Rattle.bytes.specs.Bytes.{AreBytes}
+use Rattle.watchfile.specs.Format.{blank, recordRight, recordTests, rankOf, fileOf, reading, writing}
 use Rattle.watchfile.specs.declared.Record.{Record}
-use Rattle.reader.specs.Read.{verdictAs, counted, places, blank}
+use Rattle.reader.specs.Read.{verdictAs, counted, places}
 use Rattle.reader.specs.declared.Verdict.{Verdict}
 use Rattle.reader.specs.declared.Verdict.the-variants.{Good, Broken}
+use Rattle.reader.proofs.VerdictLaws.{broken-is, good-is}
 use Rattle.writer.specs.Write.{writtenAs, Wrote}
 use Rattle.writer.specs.declared.Written.{Written}
 use Rattle.writer.proofs.WriteLaws.{past, short}
@@ -137,32 +137,13 @@ front s n end e = go (decLt n (length s))
 
 -- a file that was found broken, and one that was found good
 pub broken-there : (a : Answer ℕ (List Record)) (v : Verdict) (place : ℕ) → verdictAs v ≡ counted a → v ≡ Broken place → a ≡ refused place
-broken-there (refused p) v place e f = let g : _≡_ {A = Answer ℕ ℕ} (refused place) (refused p) = sym (ap verdictAs f) ∙ e in cc
-broken-there (given rs) v place e f = let g : _≡_ {A = Answer ℕ ℕ} (refused place) (given (length rs)) = sym (ap verdictAs f) ∙ e in cc
+broken-there a v place e f = broken-is a place (sym e ∙ ap verdictAs f)
 
 pub good-there : (rule : ℕ → ℤ) (s : List ℕ) → AreBytes s → (v : Verdict) (records : List Record) (count : ℕ)
     → verdictAs v ≡ counted (reading rule s) → records ≡ places (reading rule s) → v ≡ Good count → (count ≤ 48) × (reading rule s ≡ given (take count records))
-good-there rule s are v records count e w f = go (reading rule s) refl e w
-  where
-    go : (a : Answer ℕ (List Record)) → reading rule s ≡ a → verdictAs v ≡ counted a → records ≡ places a → (count ≤ 48) × (reading rule s ≡ given (take count records))
-    go (refused p) is e w =
-        let g : _≡_ {A = Answer ℕ ℕ} (given count) (refused p) = sym (ap verdictAs f) ∙ e in
-        let z : _≡_ {A = ℕ} 0 1 = cc in
-        absurd (omega arith)
-    go (given rs) is e w =
-        let g : _≡_ {A = Answer ℕ ℕ} (given count) (given (length rs)) = sym (ap verdictAs f) ∙ e in
-        let k : length rs ≡ count = cc in
-        (omega (arith, read-right rule s rs are is .few), is ∙ ap given (sym (ap (take count) w ∙ take-at rs (replicate (48 - length rs) blank) count k)))
-
-pub bytes-front : (s : List ℕ) (n : ℕ) → AreBytes s → AreBytes (take n s)
-bytes-front s n are i = go (decLt i n)
-  where
-    go : Dec (i < n) → getD (take n s) i 0 < 256
-    go (yes y) = rw (getD-take n s i 0 y) (are i)
-    go (no z) = rw (List·getD-eq-default (take n s) 0 (short-front (omega arith))) (lit< tt)
-      where
-        short-front : n ≤ i → length (take n s) ≤ i
-        short-front l = omega (arith, length-take n s)
+good-there rule s are v records count e w f =
+    let good = good-is (reading rule s) count records (sym e ∙ ap verdictAs f) w in
+    (omega (arith, good .1, read-right rule s (take count records) are (good .0) .few), good .0)
 
 -- ---- what placing answers and leaves
 

@@ -14,7 +14,7 @@ use borrow.Author.Tests.{ltb-true, lt-ltb, le-ltb}
 use Rattle.number.specs.Refusal.{Answer, refused, given, answer, Numbered, numbered}
 use Rattle.number.proofs.Sizes.{and-true}
 use Rattle.quantity.specs.Limits.{lastMinute, threeHours}
-use Rattle.watchfile.specs.Bytes.{AreBytes}
+use Rattle.bytes.specs.Bytes.{AreBytes}
 use Rattle.watchfile.specs.Rules.{minuteRight, rank}
 use Rattle.watchfile.specs.Format.{DewRule, kindOf, bodyRight, recordRight, rankOf, bodyBytes, bodiesBytes, fileOf, reading, writing}
 use Rattle.watchfile.specs.declared.Record.{Record}

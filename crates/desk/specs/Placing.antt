@@ -7,7 +7,7 @@ use lib.Dec.{ltb, leb, eqb}
 use lib.IntN.{ℤ}
 use lib.ListN.{length, take}
 use Rattle.number.specs.Refusal.{Answer, refused, given, Numbered, numbered}
-use Rattle.watchfile.specs.Format.{reading, writing, rankOf}
+use Rattle.watchfile.specs.Format.{reading, brokenAt, writing, rankOf}
 use Rattle.watchfile.specs.declared.Record.{Record}
 use Rattle.writer.specs.Write.{sized, leftBy}
 use Rattle.desk.specs.declared.Placed.{Placed}
@@ -23,7 +23,7 @@ abbrev pub placedAs : Placed → Answer Numbered ℕ
 placedAs (Done n) = given n
 placedAs (BreaksRules i) = refused (numbered 16 (i ∷ []))
 placedAs (TooShort n) = refused (numbered 17 (n ∷ []))
-placedAs (Broken place) = refused (numbered 18 (place ∷ []))
+placedAs (Broken place) = refused (brokenAt place)
 
 -- Writing all of these records into room for so many bytes.
 abbrev pub writingAll : (ℕ → ℤ) → ℕ → List Record → Answer Numbered (List ℕ)
@@ -31,7 +31,7 @@ writingAll rule room rs = writing rule rs (length rs) room
 
 -- The new file, of a file that was read: 18 with its place, or what writing comes to.
 abbrev pub placedIn : (ℕ → ℤ) → Record → ℕ → Answer ℕ (List Record) → Answer Numbered (List ℕ)
-placedIn rule r room (refused place) = refused (numbered 18 (place ∷ []))
+placedIn rule r room (refused place) = refused (brokenAt place)
 placedIn rule r room (given rs) = writingAll rule room (inserted r rs)
 
 -- The first n bytes of a buffer are the old file; the buffer is the room for the new.

@@ -18,6 +18,7 @@ use station::PressureAnswer;
 use station::TendencyAnswer;
 use station::WindAnswer;
 use store::Hearing;
+use watchfile::BLANK;
 use watchfile::Body;
 use watchfile::RECORDS;
 use watchfile::Record;
@@ -314,9 +315,5 @@ pub fn place(file: &mut [u8], size: usize, r: Record) -> Placed
 pub fn empty(file: &mut [u8]) -> Placed
     ensures { λ p. ⌜ ((rule : ℕ → ℤ) → DewRule rule → Leaves (writingAll rule (length (now (file .entry))) []) (now (file .entry)) (now (file .exit)) p) ⌝ }
 {
-    let blank = Record {
-        minute: 0,
-        body: Body::Pressure(0),
-    };
-    written(writer::write(file, [blank; RECORDS], 0))
+    written(writer::write(file, [BLANK; RECORDS], 0))
 }

@@ -6,12 +6,10 @@ use lib.Dec.{eqb}
 use lib.IntN.{ℤ, pos}
 use lib.ListN.{length, getD, take, replicate}
 use Rattle.number.specs.Refusal.{Numbered, Answer, refused, given}
-use Rattle.watchfile.specs.Format.{kept}
+use Rattle.watchfile.specs.Format.{kept, brokenAt}
 use Rattle.watchfile.specs.declared.Body.{Body}
 use Rattle.watchfile.specs.declared.Body.the-variants.{Pressure, Tendency, Wind, Humidity}
 use Rattle.watchfile.specs.declared.Record.{Record}
-use Rattle.reader.specs.declared.Verdict.{Verdict}
-use Rattle.reader.specs.declared.Verdict.the-variants.{Good, Broken}
 use Rattle.listing.specs.declared.Listed.{Listed}
 use Rattle.listing.specs.declared.Listed.the-variants.{Text, TooShort}
 use Rattle.filed.specs.declared.FileRecord.{FileRecord}
@@ -40,15 +38,19 @@ nothing = fields 0 0 (pos 0) (pos 0) (pos 0) (pos 0) (pos 0)
 abbrev pub fileOf : ℕ → List FileRecord → FileTold
 fileOf count all = record { number = 0; place = 0; count = count; records = record { all = all } }
 
+-- 18 also returns the place.
+abbrev pub brokenIn : Numbered → FileTold
+brokenIn r = record { number = r .number; place = getD (r .extra) 0 0; count = 0; records = record { all = replicate 48 nothing } }
+
 -- What reading a file comes to: 48 places, of which the first hold the records; or 18 with the place.
 abbrev pub fileIn : Answer ℕ (List Record) → FileTold
-fileIn (refused place) = record { number = 18; place = place; count = 0; records = record { all = replicate 48 nothing } }
+fileIn (refused place) = brokenIn (brokenAt place)
 fileIn (given rs) = fileOf (length rs) (map recordIn rs ++ replicate (48 - length rs) nothing)
 
--- What the reader handed back, as it is told.
-abbrev pub fileBy : Verdict → List Record → FileTold
-fileBy (Good n) rs = fileOf n (map recordIn (take n rs) ++ replicate (48 - n) nothing)
-fileBy (Broken place) rs = fileIn (refused place)
+-- The same from the number of records and the 48 places that the reader hands back.
+abbrev pub fileBy : Answer Numbered ℕ → List Record → FileTold
+fileBy (refused r) all = brokenIn r
+fileBy (given n) all = fileOf n (map recordIn (take n all) ++ replicate (48 - n) nothing)
 
 -- ---- writing and listing
 

@@ -5,6 +5,7 @@ ghost use Prim.Native.Nat.{_-_, min};
 ghost use lib.IntN.{pos};
 ghost use lib.ListN.{replicate, take};
 ghost use Rattle.watchfile.specs.Format.{kept};
+ghost use Rattle.reader.specs.Read.{verdictAs};
 ghost use Rattle.writer.specs.Write.{writtenAs};
 ghost use Rattle.filed.specs.Files.{recordIn, nothing, fileBy, writeIn, listedBy};
 use listing::Listed;
@@ -148,7 +149,7 @@ fn records_told(records: [Record; RECORDS], count: usize) -> [FileRecord; RECORD
 
 // A file that was read: its records, or 18 with the place where it is broken.
 pub fn file_told(read: FileRead) -> FileTold
-    ensures { λ r. ⌜ r ≡ fileBy (read .verdict) (read .records) ⌝ }
+    ensures { λ r. ⌜ r ≡ fileBy (verdictAs (read .verdict)) (read .records) ⌝ }
 {
     let verdict = read.verdict;
     let records = read.records;

@@ -8,10 +8,10 @@ use lib.IntN.{ℤ, pos, natAbs}
 use lib.ListN.{take, drop, replicate}
 use Rattle.number.specs.Whole.{within}
 use Rattle.number.specs.declared.Kept.{Kept}
+use Rattle.watchfile.specs.Format.{blank}
 use Rattle.watchfile.specs.declared.Body.{Body}
 use Rattle.watchfile.specs.declared.Body.the-variants.{Pressure, Tendency, Wind, Humidity}
 use Rattle.watchfile.specs.declared.Record.{Record}
-use Rattle.reader.specs.Read.{blank}
 use Rattle.filed.specs.declared.FileRecord.{FileRecord}
 
 -- Numbers that fit two bytes, and one.

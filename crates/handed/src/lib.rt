@@ -7,6 +7,7 @@ ghost use Rattle.handed.specs.Handed.{half, octet, pressureBody, tendenc
 use filed::FileRecord;
 use number::Kept;
 use number::Number;
+use watchfile::BLANK;
 use watchfile::Body;
 use watchfile::RECORDS;
 use watchfile::Record;
@@ -127,11 +128,7 @@ fn body_of(r: FileRecord) -> Body
 pub fn records_of(all: [FileRecord; RECORDS], count: usize) -> [Record; RECORDS]
     ensures { λ r. ⌜ HandsOver all count r ⌝ }
 {
-    let blank = Record {
-        minute: 0,
-        body: Body::Pressure(0),
-    };
-    let mut records = [blank; RECORDS];
+    let mut records = [BLANK; RECORDS];
     let end = filed::looked_at(count);
     let mut i: usize = 0;
     while i < end {

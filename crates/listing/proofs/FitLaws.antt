@@ -5,16 +5,15 @@ use mathlib.Core.Bool.{Bool, true, false, cond}
 use mathlib.Core.List.{List, _++_}
 use Prim.Native.Nat.{ℕ, zero, suc, _+_, _*_, _^_, _≤_, _<_}
 use native.Mathlib.Omega.{arith}
-use lib.Dec.{ltb, eqb}
-use lib.IntN.{ℤ, pos, natAbs, _-ℤ_}
+use lib.Dec.{eqb}
+use lib.IntN.{ℤ, natAbs}
 use lib.ListN.{length, getD, drop, length-append}
-use lib.Seq.{getD-drop}
 use borrow.Author.Tests.{leb-true}
 use Rattle.number.specs.Refusal.{Answer, refused, given}
 use Rattle.number.proofs.RefusalLaws.{given-is}
-use Rattle.number.proofs.Sizes.{size-sub}
 use Rattle.text.proofs.DecimalLaws.{decimal-length, decimalOf-length}
-use Rattle.watchfile.specs.Bytes.{le16, le32, signed16}
+use Rattle.bytes.specs.Bytes.{AreBytes, le16, le32}
+use Rattle.bytes.proofs.ByteLaws.{bytes-drop, le16-small, le32-small, signed16-small}
 use Rattle.watchfile.specs.Rules.{sizeOf}
 use Rattle.watchfile.specs.Fields.{fieldTests}
 use Rattle.watchfile.specs.Format.{bodyOf, fields, countOf, startOf, recordsFrom, records, reading}
@@ -25,42 +24,21 @@ use Rattle.watchfile.proofs.FieldLaws.{given-passed}
 use Rattle.listing.specs.Listing.{letter, bodyText, recordLine, recordLines, headLine, listingOf, LINE, TEXT}
 use Rattle.listing.proofs.PlaceLaws.{place-inside}
 
--- ---- fields of bytes are small
-
-abbrev pub Bytes : List ℕ → Type 0
-Bytes s = (i : ℕ) → getD s i 0 < 256
-
-bytes-drop : (s : List ℕ) (k : ℕ) → Bytes s → Bytes (drop k s)
-bytes-drop s k b i = rw (getD-drop k s i 0) (b (k + i))
-
-le16-small : (s : List ℕ) (k : ℕ) → Bytes s → le16 s k < 65536
-le16-small s k b = omega (arith, b k, b (k + 1))
-
-le32-small : (s : List ℕ) (k : ℕ) → Bytes s → le32 s k < 10 ^ 10
-le32-small s k b = omega (arith, b k, b (k + 1), b (k + 2), b (k + 3))
-
-signed16-small : (n : ℕ) → n < 65536 → natAbs (signed16 n) < 10 ^ 10
-signed16-small n h = go (ltb n 32768)
-  where
-    go : (t : Bool) → natAbs (cond t (pos n) (pos n -ℤ pos 65536)) < 10 ^ 10
-    go true = omega arith
-    go false = omega (arith, size-sub (pos n) (pos 65536))
-
 -- ---- a line fits
 
 -- each number of a body fits its place in the longest line
 abbrev Small : Body → Type 0
 Small (Pressure p) = p < 65536
-Small (Tendency change absent) = (natAbs (change .v) < 10 ^ 10) × (absent < 256)
+Small (Tendency change absent) = (natAbs (change .v) ≤ 32768) × (absent < 256)
 Small (Wind speed direction) = (speed < 65536) × (direction < 65536)
 Small (Humidity e saturation deficit relative dew) =
-    (e < 65536) × (saturation < 65536) × (deficit < 65536) × (relative < 256) × (natAbs (dew .v) < 10 ^ 10)
+    (e < 65536) × (saturation < 65536) × (deficit < 65536) × (relative < 256) × (natAbs (dew .v) ≤ 32768)
 
 small-either : (t : Bool) (x y : Body) → Small x → Small y → Small (cond t x y)
 small-either true x y p q = p
 small-either false x y p q = q
 
-small-body : (kind : ℕ) (s : List ℕ) → Bytes s → Small (bodyOf kind s)
+small-body : (kind : ℕ) (s : List ℕ) → AreBytes s → Small (bodyOf kind s)
 small-body kind s b =
     small-either (eqb kind 1) _ _ (le16-small s 0 b)
     (small-either (eqb kind 2) _ _ (signed16-small (le16 s 0) (le16-small s 0 b), b 2)
@@ -70,7 +48,7 @@ small-body kind s b =
 body-fits : (b : Body) → Small b → length (bodyText b) ≤ 34
 body-fits (Pressure p) h = omega (arith, decimal-length 4 p (omega arith))
 body-fits (Tendency change absent) h =
-    simp length-append (omega (arith, decimalOf-length 9 (change .v) (h .0), decimal-length 2 absent (omega (arith, h .1))))
+    simp length-append (omega (arith, decimalOf-length 4 (change .v) (omega (arith, h .0)), decimal-length 2 absent (omega (arith, h .1))))
 body-fits (Wind speed direction) h =
     simp length-append (omega (arith, decimal-length 4 speed (omega (arith, h .0)), decimal-length 4 direction (omega (arith, h .1))))
 body-fits (Humidity e saturation deficit relative dew) h =
@@ -81,7 +59,7 @@ body-fits (Humidity e saturation deficit relative dew) h =
       decimal-length 4 saturation (omega (arith, h .1)),
       decimal-length 4 deficit (omega (arith, h .2)),
       decimal-length 2 relative (omega (arith, h .3)),
-      decimalOf-length 9 (dew .v) (h .4),
+      decimalOf-length 4 (dew .v) (omega (arith, h .4)),
     ))
 
 letter-fits : (b : Body) → length (letter b) ≡ 1
@@ -90,12 +68,12 @@ letter-fits (Tendency change absent) = refl
 letter-fits (Wind speed direction) = refl
 letter-fits (Humidity e saturation deficit relative dew) = refl
 
-line-fits : (r : Record) → r .minute < 10 ^ 10 → Small (r .body) → length (recordLine r) ≤ LINE
+line-fits : (r : Record) → r .minute < 4294967296 → Small (r .body) → length (recordLine r) ≤ LINE
 line-fits r h l =
     simp length-append
-    (omega (arith, decimal-length 9 (r .minute) h, body-fits (r .body) l, letter-fits (r .body)))
+    (omega (arith, decimal-length 9 (r .minute) (omega arith), body-fits (r .body) l, letter-fits (r .body)))
 
-lines-fit : (s : List ℕ) → Bytes s → (n row at : ℕ) → length (recordLines (recordsFrom s n row at)) ≤ n * LINE
+lines-fit : (s : List ℕ) → AreBytes s → (n row at : ℕ) → length (recordLines (recordsFrom s n row at)) ≤ n * LINE
 unfolding recordLines recordsFrom
 lines-fit s b zero row at = omega arith
 lines-fit s b (suc n) row at =
@@ -129,14 +107,14 @@ module _ (dew : ℕ → ℤ) (s : List ℕ) (rs : List Record) (e : reading dew 
   pub count-fits : length rs ≤ 48
   count-fits = let c = count-known in omega arith
 
-  good-fits : Bytes s → length (headLine (length rs) ++ recordLines rs) ≤ TEXT
+  good-fits : AreBytes s → length (headLine (length rs) ++ recordLines rs) ≤ TEXT
   good-fits b =
       let l = lines-fit s b (countOf s) 4 (startOf (countOf s)) in
       let c = count-known in
       let w : length (recordLines rs) ≤ countOf s * LINE = rw (sym they-are) l in
       omega (arith, head-fits (length rs) count-fits, length-append (headLine (length rs)) (recordLines rs))
 
-pub listing-fits : (dew : ℕ → ℤ) (s : List ℕ) → Bytes s → length s < 10 ^ 20 → length (listingOf (reading dew s)) ≤ TEXT
+pub listing-fits : (dew : ℕ → ℤ) (s : List ℕ) → AreBytes s → length s < 10 ^ 20 → length (listingOf (reading dew s)) ≤ TEXT
 unfolding listingOf
 listing-fits dew s b h = go (reading dew s) refl
   where

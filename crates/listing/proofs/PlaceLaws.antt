@@ -9,7 +9,7 @@ use lib.Dec.{eqb}
 use lib.IntN.{ℤ}
 use lib.ListN.{length, getD, drop}
 use Rattle.number.specs.Refusal.{refused}
-use Rattle.watchfile.specs.Bytes.{le32}
+use Rattle.bytes.specs.Bytes.{le32}
 use Rattle.watchfile.specs.Rules.{sizeOf, rank}
 use Rattle.watchfile.specs.Fields.{Field, placed}
 use Rattle.watchfile.specs.Format.{bodyFields, rowFields, rowsFields, bodiesFields, headFields, fields, countOf, startOf, records, reading}

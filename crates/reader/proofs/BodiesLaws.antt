@@ -11,14 +11,14 @@ use lib.Seq.{take-suc-set, drop-set-lt, drop-drop}
 use borrow.Author.Tests.{eq-eqb, ne-eqb, eqb-true}
 use Rattle.number.specs.Refusal.{refused, given, answer}
 use Rattle.number.proofs.RefusalLaws.{given-is}
-use Rattle.watchfile.specs.Bytes.{le16, le32}
+use Rattle.bytes.specs.Bytes.{le16, le32}
 use Rattle.watchfile.specs.Rules.{sizeOf, rank}
 use Rattle.watchfile.specs.Fields.{Field, fieldTests, placed}
-use Rattle.watchfile.specs.Format.{rowsFields, bodyFields, bodyOf, bodiesFields, recordsFrom}
+use Rattle.watchfile.specs.Format.{blank, rowsFields, bodyFields, bodyOf, bodiesFields, recordsFrom}
 use Rattle.watchfile.specs.declared.Body.{Body}
 use Rattle.watchfile.specs.declared.Record.{Record}
 use Rattle.watchfile.proofs.FieldLaws.{wrong, right, none, Passed, given-passed, placed-refused, placed-given, place-within}
-use Rattle.reader.specs.Read.{blank, places}
+use Rattle.reader.specs.Read.{places}
 use Rattle.reader.specs.Work.{found, bodyAs, BodyFound}
 use Rattle.reader.specs.declared.BodyRead.{BodyRead}
 use Rattle.reader.specs.declared.BodyRead.the-variants.{Good, Broken}

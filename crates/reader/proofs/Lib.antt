@@ -2,5 +2,6 @@ pub mod ContentsLaws
 pub mod SizeLaws
 pub mod BodiesLaws
 pub mod ReadLaws
+pub mod VerdictLaws
 pub mod SingleAnswers
 pub mod RefusalsInOrder

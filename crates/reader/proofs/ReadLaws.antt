@@ -9,8 +9,8 @@ use Rattle.watchfile.specs.Fields.{Field, fieldTests}
 use Rattle.watchfile.specs.Format.{rowsFields, startOf}
 use Rattle.watchfile.specs.declared.Record.{Record}
 use Rattle.watchfile.proofs.FieldLaws.{given-passed}
-use Rattle.reader.specs.Read.{verdictAs, HandsBack}
-use Rattle.reader.specs.Work.{contentsOf}
+use Rattle.reader.specs.Read.{HandsBack}
+use Rattle.reader.specs.Work.{contentsAs, contentsOf}
 use Rattle.reader.specs.declared.Verdict.{Verdict}
 use Rattle.reader.specs.declared.Verdict.the-variants.{Good, Broken}
 use Rattle.reader.specs.declared.FileRead.{FileRead}
@@ -23,13 +23,13 @@ hands r e h = subst (λ (x : Answer ℕ (List Record)). HandsBack x r) (sym e) h
 abbrev pub rows : List ℕ → ℕ → List Field
 rows s count = rowsFields s count 4 (startOf count) 0
 
-module _ (s : List ℕ) (count : ℕ) (v : Verdict) (is : verdictAs v ≡ contentsOf s count) where
+module _ (s : List ℕ) (count : ℕ) (v : Verdict) (is : contentsAs v ≡ contentsOf s count) where
   pub contents-good : (k : ℕ) → v ≡ Good k → contentsOf s count ≡ given count
   contents-good k e =
-      let good = sym is ∙ ap verdictAs e in good ∙ ap given (sym (given-is (fieldTests (length s) (rows s count)) count k good))
+      let good = sym is ∙ ap contentsAs e in good ∙ ap given (sym (given-is (fieldTests (length s) (rows s count)) count k good))
 
   pub contents-broken : (k : ℕ) → v ≡ Broken k → contentsOf s count ≡ refused k
-  contents-broken k e = sym is ∙ ap verdictAs e
+  contents-broken k e = sym is ∙ ap contentsAs e
 
 -- contents that are right are whole
 pub contents-whole : (s : List ℕ) (count : ℕ) → 4 ≤ length s → contentsOf s count ≡ given count → startOf count ≤ length s

@@ -4,17 +4,18 @@ use mathlib.Core.Path.{_≡_, sym, ap, _∙_}
 use mathlib.Core.List.{List}
 use mathlib.Core.Logic.{_↔_}
 use Prim.Native.Nat.{ℕ}
+use native.Mathlib.Omega.{arith}
 use lib.IntN.{ℤ}
 use lib.ListN.{length}
-use Rattle.number.specs.Refusal.{Test, Answer, refused, given, Holds, First}
+use Rattle.number.specs.Refusal.{Test, refused, given, Holds, First, Numbered}
 use Rattle.number.proofs.RefusalLaws.{refused-exactly, given-exactly}
 use Rattle.watchfile.specs.Fields.{fieldTests}
-use Rattle.watchfile.specs.Format.{fields, records, reading}
-use Rattle.watchfile.specs.declared.Record.{Record}
+use Rattle.watchfile.specs.Format.{fields, records, reading, brokenAt}
 use Rattle.reader.specs.Read.{verdictAs, counted, HandsBack}
-use Rattle.reader.specs.declared.Verdict.the-variants.{Broken}
+use Rattle.reader.specs.declared.Verdict.{Verdict}
+use Rattle.reader.specs.declared.Verdict.the-variants.{Good, Broken}
 use Rattle.reader.specs.declared.FileRead.{FileRead}
-use Rattle.reader.proofs.SingleAnswers.{verdict-by}
+use Rattle.reader.proofs.VerdictLaws.{broken-is}
 
 -- the tests of a file in their order, each with its place
 abbrev pub tests : (ℕ → ℤ) → List ℕ → List (Test ℕ)
@@ -28,14 +29,19 @@ pub reading-given : (rule : ℕ → ℤ) (s : List ℕ) → (reading rule s ≡ 
 unfolding reading
 reading-given rule s = given-exactly (records s) (tests rule s)
 
-counted-refused : (a : Answer ℕ (List Record)) (place : ℕ) → counted a ≡ refused place → a ≡ refused place
-counted-refused (refused k) place e = cc
-counted-refused (given rs) place e = cc
-
--- The reader's own verdict.
+-- The reader's own verdict: its number and the place.
 pub read-refused : (rule : ℕ → ℤ) (s : List ℕ) (r : FileRead) → HandsBack (reading rule s) r → (place : ℕ) →
-    (r .verdict ≡ Broken place) ↔ First (tests rule s) place
+    (verdictAs (r .verdict) ≡ refused (brokenAt place)) ↔ First (tests rule s) place
 read-refused rule s r h place = (
-  λ e. reading-refused rule s place .0 (counted-refused (reading rule s) place (sym (h .verdict) ∙ ap verdictAs e)),
-  λ w. verdict-by (r .verdict) (Broken place) (h .verdict ∙ ap counted (reading-refused rule s place .1 w)),
+  λ e. reading-refused rule s place .0 (broken-is (reading rule s) place (sym (h .verdict) ∙ e)),
+  λ w. h .verdict ∙ ap counted (reading-refused rule s place .1 w),
 )
+
+-- It refuses with nothing but 18.
+pub read-refused-18 : (rule : ℕ → ℤ) (s : List ℕ) (r : FileRead) → HandsBack (reading rule s) r → (x : Numbered) →
+    verdictAs (r .verdict) ≡ refused x → (place : ℕ) × (x ≡ brokenAt place)
+read-refused-18 rule s r h x e = go (r .verdict) e
+  where
+    go : (v : Verdict) → verdictAs v ≡ refused x → (place : ℕ) × (x ≡ brokenAt place)
+    go (Good n) e = absurd (let z : _≡_ {A = ℕ} 0 1 = cc in omega arith)
+    go (Broken place) e = (place, cc)

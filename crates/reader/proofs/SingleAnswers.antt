@@ -5,17 +5,10 @@ use mathlib.Core.List.{List}
 use Rattle.number.specs.Single.{Single}
 use Rattle.watchfile.specs.declared.Record.{Record}
 use Rattle.watchfile.proofs.DewRules.{the-rule}
-use Rattle.reader.specs.Read.{verdictAs}
 use Rattle.reader.specs.declared.Verdict.{Verdict}
-use Rattle.reader.specs.declared.Verdict.the-variants.{Good, Broken}
 use Rattle.reader.specs.declared.FileRead.{FileRead}
+use Rattle.reader.proofs.VerdictLaws.{verdict-by}
 use Rattle.reader.proofs.read.Reads as read
-
-pub verdict-by : (v w : Verdict) → verdictAs v ≡ verdictAs w → v ≡ w
-verdict-by (Good m) (Good n) e = cc
-verdict-by (Good m) (Broken n) e = cc
-verdict-by (Broken m) (Good n) e = cc
-verdict-by (Broken m) (Broken n) e = cc
 
 file-by : (r r′ : FileRead) → r .verdict ≡ r′ .verdict → r .records ≡ r′ .records → r ≡ r′
 file-by r r′ e f = ap (λ (v : Verdict). make v (r .records)) e ∙ ap (make (r′ .verdict)) f

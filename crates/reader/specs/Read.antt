@@ -3,26 +3,22 @@ use mathlib.Core.Path.{_≡_}
 use mathlib.Core.List.{List, _++_}
 use Prim.Native.Nat.{ℕ, _-_}
 use lib.ListN.{length, replicate}
-use Rattle.number.specs.Refusal.{Answer, refused, given}
-use Rattle.watchfile.specs.declared.Body.the-variants.{Pressure}
+use Rattle.number.specs.Refusal.{Answer, refused, given, Numbered}
+use Rattle.watchfile.specs.Format.{blank, brokenAt}
 use Rattle.watchfile.specs.declared.Record.{Record}
 use Rattle.reader.specs.declared.Verdict.{Verdict}
 use Rattle.reader.specs.declared.Verdict.the-variants.{Good, Broken}
 use Rattle.reader.specs.declared.FileRead.{FileRead}
 
--- Document 01's answer of each case: how many records, or 18, "file broken", with its place.
-abbrev pub verdictAs : Verdict → Answer ℕ ℕ
+-- Document 01's number of each case, and what it also returns.
+abbrev pub verdictAs : Verdict → Answer Numbered ℕ
 verdictAs (Good n) = given n
-verdictAs (Broken place) = refused place
+verdictAs (Broken place) = refused (brokenAt place)
 
--- How many records a file has.
-abbrev pub counted : Answer ℕ (List Record) → Answer ℕ ℕ
-counted (refused place) = refused place
+-- A good file is answered with the number of its records, a broken one with 18 and the place.
+abbrev pub counted : Answer ℕ (List Record) → Answer Numbered ℕ
+counted (refused place) = refused (brokenAt place)
 counted (given rs) = given (length rs)
-
--- What stands where no record was read.
-abbrev pub blank : Record
-blank = record { minute = 0; body = Pressure 0 }
 
 -- The 48 places: the records and blanks behind them. "A refusal returns its number, the extra shown, and no figure."
 abbrev pub places : Answer ℕ (List Record) → List Record

@@ -5,7 +5,7 @@ use Prim.Native.Nat.{ℕ}
 use lib.IntN.{ℤ}
 use lib.ListN.{getD, length, drop}
 use Rattle.number.specs.Refusal.{Answer, refused, given, answer}
-use Rattle.watchfile.specs.Bytes.{le32}
+use Rattle.bytes.specs.Bytes.{le32}
 use Rattle.watchfile.specs.Fields.{Field, fieldTests}
 use Rattle.watchfile.specs.Format.{humidityFields, bodyOf, rowFields, rowsFields, bodiesFields, recordsFrom, startOf}
 use Rattle.watchfile.specs.declared.Body.{Body}
@@ -15,6 +15,8 @@ use Rattle.reader.specs.declared.BodyRead.the-variants as bodies
 use Rattle.reader.specs.declared.Row.{Row}
 use Rattle.reader.specs.declared.RowRead.{RowRead}
 use Rattle.reader.specs.declared.RowRead.the-variants as rows
+use Rattle.reader.specs.declared.Verdict.{Verdict}
+use Rattle.reader.specs.declared.Verdict.the-variants as verdicts
 
 -- What the fields of a part come to: its value, or the place of the first that is wrong, counted from the part's first byte.
 abbrev pub found : {A : Type 0} → List ℕ → List Field → A → Answer ℕ A
@@ -48,6 +50,10 @@ derivedFields rule s = drop 2 (humidityFields rule s)
 -- ---- the file s of so many records
 
 -- Its contents: that many, or the place where they are broken.
+abbrev pub contentsAs : Verdict → Answer ℕ ℕ
+contentsAs (verdicts.Good n) = given n
+contentsAs (verdicts.Broken place) = refused place
+
 abbrev pub contentsOf : List ℕ → ℕ → Answer ℕ ℕ
 contentsOf s count = found s (rowsFields s count 4 (startOf count) 0) count
 

@@ -1,17 +1,16 @@
 // The reader of a watch file: contents first, then each body from its own offset.
 ghost use mathlib.Core.Path.{_≡_};
 ghost use mathlib.Core.Bool.{_&&_};
-ghost use Prim.Native.Nat.{ℕ, _+_, _≤_, _<_};
+ghost use Prim.Native.Nat.{ℕ, _+_, _≤_};
 ghost use lib.Dec.{eqb};
 ghost use lib.IntN.{ℤ};
 ghost use lib.ListN.{length};
 ghost use Rattle.number.specs.Refusal.{refused, given};
-ghost use Rattle.watchfile.specs.Bytes.{le16, le32, signed16};
+ghost use Rattle.bytes.specs.Bytes.{le16, le32};
 ghost use Rattle.watchfile.specs.Format.{DewRule, pressureFields, tendencyFields, windFields, humidityFields, bodyFields, startOf, reading};
-ghost use Rattle.reader.specs.Read.{verdictAs, HandsBack};
-ghost use Rattle.reader.specs.Work.{derivedFields, BodyFound, RowFound, contentsOf, bodiesOf};
-use number::Kept;
-use number::Number;
+ghost use Rattle.reader.specs.Read.{HandsBack};
+ghost use Rattle.reader.specs.Work.{derivedFields, BodyFound, RowFound, contentsAs, contentsOf, bodiesOf};
+use watchfile::BLANK;
 use watchfile::Body;
 use watchfile::RECORDS;
 use watchfile::Record;
@@ -87,26 +86,12 @@ const RELATIVE: usize = 6;
 
 const DEW: usize = 7;
 
-// The byte, to add up a number of two bytes.
-fn wide(x: u8) -> u16
-    ensures { λ r. ⌜ (r ≡ x) × (r < 256) ⌝ }
-{
-    x as u16
-}
-
-// The byte, to add up a number of four bytes.
-fn wide32(x: u8) -> u32
-    ensures { λ r. ⌜ (r ≡ x) × (r < 256) ⌝ }
-{
-    x as u32
-}
-
 // The number in two bytes of s from place k on.
 fn get16(s: &[u8], k: usize) -> u16
     requires { ⌜ k + 2 ≤ length (now s) ⌝ }
     ensures { λ r. ⌜ r ≡ le16 (now (s .entry)) k ⌝ }
 {
-    wide(s[k]) + 256 * wide(s[k + 1])
+    bytes::two(s[k], s[k + 1])
 }
 
 // The number in four bytes of s from place k on.
@@ -114,18 +99,7 @@ fn get32(s: &[u8], k: usize) -> u32
     requires { ⌜ k + 4 ≤ length (now s) ⌝ }
     ensures { λ r. ⌜ r ≡ le32 (now (s .entry)) k ⌝ }
 {
-    wide32(s[k]) + 256 * wide32(s[k + 1]) + 65536 * wide32(s[k + 2]) + 16777216 * wide32(s[k + 3])
-}
-
-// The signed number that two bytes hold.
-fn signed(n: u16) -> Kept
-    ensures { λ r. ⌜ r .v ≡ signed16 n ⌝ }
-{
-    let whole = Number::whole(n as u32);
-    if n < 32768 {
-        return whole.keep();
-    }
-    whole.minus(Number { v: 65536 }).keep()
+    bytes::four(s[k], s[k + 1], s[k + 2], s[k + 3])
 }
 
 // The body of a pressure, at the start of s.
@@ -149,7 +123,7 @@ fn read_tendency(s: &[u8]) -> BodyRead
     if s.len() < 2 {
         return BodyRead::Broken(s.len());
     }
-    let change = signed(get16(s, CHANGE));
+    let change = bytes::signed(get16(s, CHANGE));
     if !watchfile::change_right(change) {
         return BodyRead::Broken(CHANGE);
     }
@@ -226,7 +200,7 @@ fn read_derived(s: &[u8], e: u16, saturation: u16) -> BodyRead
     if s.len() < 9 {
         return BodyRead::Broken(s.len());
     }
-    let dew = signed(get16(s, DEW));
+    let dew = bytes::signed(get16(s, DEW));
     if watchfile::dew_right(e, dew) {
         return BodyRead::Good(Body::Humidity {
             e,
@@ -292,7 +266,7 @@ fn read_row(s: &[u8], next: usize, before: u64) -> RowRead
 // Whether the contents are right: so many records, or the place of the first wrong field.
 fn contents(file: &[u8], count: usize) -> Verdict
     requires { ⌜ (4 ≤ length (now file)) × (count ≤ 48) ⌝ }
-    ensures { λ r. ⌜ verdictAs r ≡ contentsOf (now (file .entry)) count ⌝ }
+    ensures { λ r. ⌜ contentsAs r ≡ contentsOf (now (file .entry)) count ⌝ }
 {
     let mut i: usize = 0;
     let mut at: usize = 4;
@@ -318,13 +292,9 @@ fn contents(file: &[u8], count: usize) -> Verdict
 fn broken(place: usize) -> FileRead
     ensures { λ r. ⌜ HandsBack (refused place) r ⌝ }
 {
-    let blank = Record {
-        minute: 0,
-        body: Body::Pressure(0),
-    };
     FileRead {
         verdict: Verdict::Broken(place),
-        records: [blank; RECORDS],
+        records: [BLANK; RECORDS],
     }
 }
 
@@ -333,11 +303,7 @@ fn bodies(file: &[u8], count: usize) -> FileRead
     requires { ⌜ (count ≤ 48) × (contentsOf (now file) count ≡ given count) × (startOf count ≤ length (now file)) ⌝ }
     ensures { λ r. ⌜ ((rule : ℕ → ℤ) → DewRule rule → HandsBack (bodiesOf rule (now (file .entry)) count) r) ⌝ }
 {
-    let blank = Record {
-        minute: 0,
-        body: Body::Pressure(0),
-    };
-    let mut records = [blank; RECORDS];
+    let mut records = [BLANK; RECORDS];
     let mut i: usize = 0;
     let mut row: usize = 4;
     let mut end: usize = 4 + 8 * count;

@@ -12,6 +12,7 @@ use Rattle.quantity.specs.declared.BarometerUnit.the-variants.{Hectopascals, Mi
 use Rattle.settings.specs.Settings.{nowhere}
 use Rattle.settings.specs.declared.Point.{Point}
 use Rattle.settings.specs.declared.Settings.{Settings}
+use Rattle.watchfile.specs.Format.{blank}
 use Rattle.watchfile.specs.declared.Body.{Body}
 use Rattle.watchfile.specs.declared.Body.the-variants as body
 use Rattle.watchfile.specs.declared.Record.{Record}
@@ -68,7 +69,7 @@ bodyOf numbers k =
 -- Record i of a line with so many words behind the name.
 abbrev pub recordOf : List ℕ → ℕ → ℕ → Record
 recordOf numbers words i =
-    cond (ltb (1 + i) words) (record { minute = at numbers (2 + 7 * i) % 4294967296; body = bodyOf numbers (1 + 7 * i) }) (record { minute = 0; body = body.Pressure 0 })
+    cond (ltb (1 + i) words) (record { minute = at numbers (2 + 7 * i) % 4294967296; body = bodyOf numbers (1 + 7 * i) }) blank
 
 unfoldable pub recordsOf : List ℕ → ℕ → List Record
 recordsOf numbers words = each (recordOf numbers words) 0 48

@@ -13,6 +13,7 @@ use settings::PsychrometerCoefficient;
 use settings::SeaLevelDifference;
 use settings::Settings;
 use settings::TemperatureCoefficient;
+use watchfile::BLANK;
 use watchfile::Body;
 use watchfile::RECORDS;
 use watchfile::Record;
@@ -119,10 +120,7 @@ fn record_of(numbers: &[u64], words: usize, i: usize) -> Record
             body: body_of(numbers, 1 + 7 * i),
         };
     }
-    Record {
-        minute: 0,
-        body: Body::Pressure(0),
-    }
+    BLANK
 }
 
 // The settings that the numbers of an `open` line say, which has so many words behind the name.
@@ -156,11 +154,7 @@ pub fn settings_of(numbers: &[u64], words: usize) -> Settings
 pub fn records_of(numbers: &[u64], words: usize) -> [Record; RECORDS]
     ensures { λ r. ⌜ r ≡ recordsOf (now (numbers .entry)) words ⌝ }
 {
-    let blank = Record {
-        minute: 0,
-        body: Body::Pressure(0),
-    };
-    let mut records = [blank; RECORDS];
+    let mut records = [BLANK; RECORDS];
     let mut i = 0;
     while i < RECORDS {
         let record = record_of(numbers, words, i);

@@ -10,7 +10,7 @@ use lib.ListN.{length, getD, drop, take}
 use Rattle.number.specs.Refusal.{Test, Answer, answer, Numbered, numbered}
 use Rattle.number.specs.declared.Kept.{Kept}
 use Rattle.vapour.specs.Vapour.{DewPoint, recordedVapour}
-use Rattle.watchfile.specs.Bytes.{le16, le32, bytes16, bytes32, signed16, unsigned16}
+use Rattle.bytes.specs.Bytes.{le16, le32, bytes16, bytes32, signed16, unsigned16}
 use Rattle.watchfile.specs.Rules.{kindRight, sizeOf, rank, minuteRight, pressureRight, changeRight, absentRight, speedRight, directionRight, eRight, saturationRight, deficitRight, relativeRight, dewRight}
 use Rattle.watchfile.specs.Fields.{Field, field, fieldTests, placed}
 use Rattle.watchfile.specs.declared.Body.{Body}
@@ -20,6 +20,10 @@ use Rattle.watchfile.specs.declared.Record.{Record}
 -- dew gives the dew point of every e that a file may hold.
 abbrev pub DewRule : (ℕ → ℤ) → Type 0
 DewRule dew = (e : ℕ) → recordedVapour e ≡ true → DewPoint e (dew e)
+
+-- What stands at a place without a record.
+abbrev pub blank : Record
+blank = record { minute = 0; body = Pressure 0 }
 
 -- ---- bodies: s is the file from the body's offset on
 
@@ -116,7 +120,11 @@ recordsFrom s (suc n) row at =
 abbrev pub records : List ℕ → List Record
 records s = recordsFrom s (countOf s) 4 (startOf (countOf s))
 
--- Reading a file: its records, or 18 with the place.
+-- 18: "file broken", with "place"
+abbrev pub brokenAt : ℕ → Numbered
+brokenAt place = numbered 18 (place ∷ [])
+
+-- Reading a file: its records, or the place where it is broken.
 unfoldable pub reading : (ℕ → ℤ) → List ℕ → Answer ℕ (List Record)
 reading dew s = answer (fieldTests (length s) (fields dew s)) (records s)
 

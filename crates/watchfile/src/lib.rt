@@ -47,6 +47,12 @@ pub struct Record {
 // The most records that a file can have.
 pub const RECORDS: usize = 48;
 
+// What stands at a place without a record. No file may hold it.
+pub const BLANK: Record = Record {
+    minute: 0,
+    body: Body::Pressure(0),
+};
+
 impl Body {
     // The number of the body's kind.
     pub fn kind(self) -> u8

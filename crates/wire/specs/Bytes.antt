@@ -1,16 +1,14 @@
 -- The bytes of a message: "channel (1), state (1), two zero bytes, minute (4), first value (4), second value (4)", little endian.
 use mathlib.Core.Bool.{Bool, not, _&&_, _||_}
 use mathlib.Core.List.{List}
-use Prim.Native.Nat.{ℕ, _+_, _*_}
+use Prim.Native.Nat.{ℕ}
 use lib.Dec.{eqb}
 use lib.ListN.{getD}
 use lib.Ieee.{Float, binary32, ofBits}
+use Rattle.bytes.specs.Bytes.{le32}
 
 abbrev pub byte : List ℕ → ℕ → ℕ
 byte m at = getD m at 0
-
-abbrev pub word : List ℕ → ℕ → ℕ
-word m at = byte m at + 256 * byte m (at + 1) + 65536 * byte m (at + 2) + 16777216 * byte m (at + 3)
 
 abbrev pub channel : List ℕ → ℕ
 channel m = byte m 0
@@ -19,13 +17,13 @@ abbrev pub state : List ℕ → ℕ
 state m = byte m 1
 
 abbrev pub minute : List ℕ → ℕ
-minute m = word m 4
+minute m = le32 m 4
 
 abbrev pub first : List ℕ → Float
-first m = ofBits binary32 (word m 8)
+first m = ofBits binary32 (le32 m 8)
 
 abbrev pub second : List ℕ → Float
-second m = ofBits binary32 (word m 12)
+second m = ofBits binary32 (le32 m 12)
 
 abbrev pub wetBulb : List ℕ → Bool
 wetBulb m = eqb (channel m) 5
@@ -40,7 +38,7 @@ stray m =
     not (eqb (byte m 2) 0)
     || not (eqb (byte m 3) 0)
     || not (wetBulb m || eqb (state m) 0)
-    || not (paired m || eqb (word m 12) 0)
+    || not (paired m || eqb (le32 m 12) 0)
 
 -- "wet-bulb state not 0, water"
 abbrev pub notWater : List ℕ → Bool

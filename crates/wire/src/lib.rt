@@ -1,9 +1,10 @@
 // A message as it comes: 16 bytes in, one of six kinds and its minute out, or the first refusal of 1 to 6 that holds.
 ghost use mathlib.Core.Path.{_≡_};
-ghost use Prim.Native.Nat.{_+_, _≤_, _<_};
+ghost use Prim.Native.Nat.{_+_, _≤_};
 ghost use lib.ListN.{length};
 ghost use lib.Ieee.{binary32, ofBits};
-ghost use Rattle.wire.specs.Bytes.{word, stray, notWater};
+ghost use Rattle.bytes.specs.Bytes.{le32};
+ghost use Rattle.wire.specs.Bytes.{stray, notWater};
 ghost use Rattle.wire.specs.Finite.{isFinite, Finite};
 ghost use Rattle.wire.specs.Kinds.{kind};
 ghost use Rattle.wire.specs.Decode.{numberOf, decoded, decodedAs};
@@ -66,22 +67,12 @@ pub enum Decoded {
 
 // ---- bytes
 
-fn wide(x: u8) -> u32
-    ensures { λ r. ⌜ (r ≡ x) × (r < 256) ⌝ }
-{
-    x as u32
-}
-
-// Four bytes, little endian.
+// The number in four bytes from a place on.
 fn word(bytes: &[u8], at: usize) -> u32
     requires { ⌜ at + 4 ≤ length (now bytes) ⌝ }
-    ensures { λ r. ⌜ r ≡ word (now (bytes .entry)) at ⌝ }
+    ensures { λ r. ⌜ r ≡ le32 (now (bytes .entry)) at ⌝ }
 {
-    let a = wide(bytes[at]);
-    let b = wide(bytes[at + 1]);
-    let c = wide(bytes[at + 2]);
-    let d = wide(bytes[at + 3]);
-    a + 256 * b + 65536 * c + 16777216 * d
+    bytes::four(bytes[at], bytes[at + 1], bytes[at + 2], bytes[at + 3])
 }
 
 // Whether a byte that must be zero is not: one of the pad, the state except on channel 5, the second value except on 2 and 3.

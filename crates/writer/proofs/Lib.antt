@@ -3,7 +3,6 @@ pub mod SizeLaws
 pub mod RestLaws
 pub mod TurnLaws
 pub mod WriteLaws
-pub mod ByteLaws
 pub mod RightLaws
 pub mod PassedLaws
 pub mod WrittenReadLaws

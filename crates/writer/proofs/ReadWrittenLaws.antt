@@ -3,30 +3,27 @@
 use mathlib.Core.Path.{_≡_, refl, sym, ap, _∙_, subst}
 use mathlib.Core.Bool.{Bool, true, _&&_}
 use mathlib.Core.List.{List, [], _∷_, _++_, append-assoc}
-use Prim.Native.Nat.{ℕ, zero, suc, _+_, _*_, _≤_, _<_}
+use Prim.Native.Nat.{ℕ, zero, suc, _+_, _*_, _≤_}
 use native.Mathlib.Omega.{arith}
 use native.Mathlib.Nat.{add-zero}
 use lib.Dec.{eqb}
 use lib.IntN.{ℤ}
 use lib.ListN.{length, drop, getD, length-drop}
-use lib.Seq.{drop-cons, drop-drop, getD-drop, drop-length}
+use lib.Seq.{drop-cons, drop-drop, drop-length}
 use borrow.Author.Tests.{leb-true, eqb-true}
 use Rattle.number.specs.Refusal.{given}
 use Rattle.number.proofs.RefusalLaws.{given-is}
 use Rattle.number.proofs.Sizes.{and-true}
-use Rattle.watchfile.specs.Bytes.{AreBytes, le16, le32, bytes16, bytes32, signed16, unsigned16}
+use Rattle.bytes.specs.Bytes.{AreBytes, le16, le32, bytes16, bytes32, signed16, unsigned16}
 use Rattle.watchfile.specs.Rules.{kindRight, sizeOf, rank, minuteRight}
 use Rattle.watchfile.specs.Fields.{Field, fieldTests, placed}
 use Rattle.watchfile.specs.Format.{bodyFields, bodyOf, rowFields, headFields, rowsFields, bodiesFields, fields, recordsFrom, records, countOf, startOf, reading, kindOf, bodyBytes, rowBytes, rowsBytes, bodiesBytes, fileOf, bodyRight}
 use Rattle.watchfile.specs.declared.Body.{Body}
 use Rattle.watchfile.specs.declared.Record.{Record}
 use Rattle.watchfile.proofs.FieldLaws.{Passed, given-passed}
-use Rattle.writer.proofs.ByteLaws.{bytes16-back, bytes32-back, unsigned-is}
+use Rattle.bytes.proofs.ByteLaws.{bytes16-back, bytes32-back, unsigned-is, bytes-drop}
 use Rattle.writer.proofs.RightLaws.{AllRight, by-kind}
 use Rattle.writer.proofs.PassedLaws.{split, unplace}
-
-bytes-drop : (s : List ℕ) (n : ℕ) → AreBytes s → AreBytes (drop n s)
-bytes-drop s n h i = subst (λ (x : ℕ). x < 256) (sym (getD-drop n s i 0)) (h (n + i))
 
 -- k bytes from j on, and what stands behind them
 abbrev these : List ℕ → ℕ → ℕ → List ℕ

@@ -9,8 +9,7 @@ use lib.ListN.{length, take, drop, getD, drop-of-length-le, length-append, lengt
 use lib.Seq.{take-nil, drop-cons}
 use Rattle.number.specs.Refusal.{Test, refused, answer, Numbered, numbered}
 use Rattle.watchfile.specs.Rules.{sizeOf}
-use Rattle.watchfile.specs.Format.{kindOf, bodyBytes, rowBytes, rowsBytes, bodiesBytes, recordRight, rankOf, recordTests}
-use Rattle.watchfile.specs.declared.Body.the-variants.{Pressure}
+use Rattle.watchfile.specs.Format.{blank, kindOf, bodyBytes, rowBytes, rowsBytes, bodiesBytes, recordRight, rankOf, recordTests}
 use Rattle.watchfile.specs.declared.Record.{Record}
 use Rattle.writer.proofs.SizeLaws.{length-body}
 
@@ -18,9 +17,6 @@ abbrev pub rest : List Record → ℕ → ℕ → List Record
 rest all count i = take (count - i) (drop i all)
 
 -- the record at a place
-abbrev pub blank : Record
-blank = record { minute = 0; body = Pressure 0 }
-
 abbrev pub at : List Record → ℕ → Record
 at all i = getD all i blank
 

@@ -10,7 +10,7 @@ use lib.IntN.{ℤ}
 use lib.ListN.{length, take, length-take}
 use borrow.Author.Tests.{ltb-false, le-ltb}
 use Rattle.number.specs.Refusal.{refused, given, answer, Numbered, numbered}
-use Rattle.watchfile.specs.Bytes.{AreBytes}
+use Rattle.bytes.specs.Bytes.{AreBytes}
 use Rattle.watchfile.specs.Format.{DewRule, reading, writing, fileOf}
 use Rattle.watchfile.specs.declared.Record.{Record}
 use Rattle.writer.proofs.RightLaws.{AllRight, right-goes-on, given-right}

@@ -5,12 +5,11 @@ ghost use Prim.Native.Nat.{ℕ, _+_, _*_, _≤_};
 ghost use lib.IntN.{ℤ};
 ghost use lib.ListN.{length, take};
 ghost use lib.Seq.{sets};
-ghost use Rattle.watchfile.specs.Bytes.{bytes16, bytes32, unsigned16};
+ghost use Rattle.bytes.specs.Bytes.{bytes16, bytes32};
 ghost use Rattle.watchfile.specs.Rules.{sizeOf};
 ghost use Rattle.watchfile.specs.Format.{DewRule, kindOf, bodyBytes, rowsBytes, bodiesBytes, startOf};
 ghost use Rattle.writer.specs.Write.{Wrote, Checks};
 use number::Kept;
-use number::Number;
 use watchfile::Body;
 use watchfile::RECORDS;
 use watchfile::Record;
@@ -38,8 +37,9 @@ fn put16(part: &mut [u8], at: usize, n: u16)
     requires { ⌜ at + 2 ≤ length (now part) ⌝ }
     ensures { λ _. ⌜ now (part .exit) ≡ sets (now (part .entry)) at (bytes16 n) ⌝ }
 {
-    part[at] = (n % 256) as u8;
-    part[at + 1] = (n / 256) as u8;
+    let two = bytes::in_two(n);
+    part[at] = two[0];
+    part[at + 1] = two[1];
 }
 
 // Puts the four bytes of n at a place.
@@ -47,19 +47,11 @@ fn put32(part: &mut [u8], at: usize, n: u32)
     requires { ⌜ at + 4 ≤ length (now part) ⌝ }
     ensures { λ _. ⌜ now (part .exit) ≡ sets (now (part .entry)) at (bytes32 n) ⌝ }
 {
-    part[at] = (n % 256) as u8;
-    part[at + 1] = (n / 256 % 256) as u8;
-    part[at + 2] = (n / 65536 % 256) as u8;
-    part[at + 3] = (n / 16777216) as u8;
-}
-
-// The two bytes of a signed number, as a number without a sign.
-fn unsigned(n: Kept) -> u16
-    ensures { λ r. ⌜ r ≡ unsigned16 (n .v) ⌝ }
-{
-    let turn = Number { v: 65536 };
-    let size = n.number().plus(turn).size();
-    (size % 65536) as u16
+    let four = bytes::in_four(n);
+    part[at] = four[0];
+    part[at + 1] = four[1];
+    part[at + 2] = four[2];
+    part[at + 3] = four[3];
 }
 
 // Writes a pressure.
@@ -75,7 +67,7 @@ fn write_tendency(part: &mut [u8], change: Kept, absent: u8)
     requires { ⌜ 3 ≤ length (now part) ⌝ }
     ensures { λ _. ⌜ now (part .exit) ≡ sets (now (part .entry)) 0 (bodyBytes (Body.Tendency change absent)) ⌝ }
 {
-    let bits = unsigned(change);
+    let bits = bytes::unsigned(change);
     put16(part, 0, bits);
     part[2] = absent;
 }
@@ -94,7 +86,7 @@ fn write_humidity(part: &mut [u8], e: u16, saturation: u16, deficit: u16, relati
     requires { ⌜ 9 ≤ length (now part) ⌝ }
     ensures { λ _. ⌜ now (part .exit) ≡ sets (now (part .entry)) 0 (bodyBytes (Body.Humidity e saturation deficit relative dew)) ⌝ }
 {
-    let bits = unsigned(dew);
+    let bits = bytes::unsigned(dew);
     put16(part, 0, e);
     put16(part, 2, saturation);
     put16(part, 4, deficit);

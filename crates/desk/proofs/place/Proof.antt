@@ -3,9 +3,10 @@ use native.Mathlib.Omega.{arith}
 use denote.Ref.{now}
 use lib.ListN.{take, length-take}
 use borrow.Author.Needs.{needs}
+use Rattle.bytes.proofs.ByteLaws.{bytes-take}
 use Rattle.watchfile.specs.Format.{reading}
 use Rattle.watchfile.proofs.DewRules.{the-rule}
-use Rattle.desk.proofs.PlaceLaws.{bytes-front, broken-there, good-there, leaves-broken, leaves-placed}
+use Rattle.desk.proofs.PlaceLaws.{broken-there, good-there, leaves-broken, leaves-placed}
 use Rattle.desk.proofs.place.Statement.{statement}
 use Rattle.desk.proofs.place.Tie as tie
 
@@ -34,7 +35,7 @@ write-with-requires c κs =
     let end = c .before .before .before .before .before .before .before .smaller .result in
     let told = c .before .before .before .before .before .read in
     let h = told .ensures (the-rule .0) (the-rule .1) in
-    good-there (the-rule .0) (take end file) (bytes-front file end (λ i. c .before .before .before .before .before .before .before .before .slice-known .given i .fits)) (told .result .verdict) (told .result .records) (c .before .before .verdict2 .given .0 .0)
+    good-there (the-rule .0) (take end file) (bytes-take file end (λ i. c .before .before .before .before .before .before .before .before .slice-known .given i .fits)) (told .result .verdict) (told .result .records) (c .before .before .verdict2 .given .0 .0)
     (h .verdict) (h .records) (c .before .before .verdict2 .given .1) .0
 
 same-length : tie.Need-same-length
@@ -62,7 +63,7 @@ returns-2 c =
     let told = c .before .before .before .before .before .before .before .before .read in
     let h = told .ensures rule ruled in
     let count = c .before .before .before .before .before .verdict2 .given in
-    let good = good-there rule (take (end .result) file) (bytes-front file (end .result) (λ i. c .before .before .before .before .before .before .before .before .before .before .before .slice-known .given i .fits)) (told .result .verdict) (told .result .records) (count .0 .0) (h .verdict) (h .records) (count .1) in
+    let good = good-there rule (take (end .result) file) (bytes-take file (end .result) (λ i. c .before .before .before .before .before .before .before .before .before .before .before .slice-known .given i .fits)) (told .result .verdict) (told .result .records) (count .0 .0) (h .verdict) (h .records) (count .1) in
     let w = c .before .before .write-with in
     leaves-placed rule (q .r) (q .size) (end .result) file (end .ensures) (take (count .0 .0) (told .result .records)) (w .last .0) (w .result) (good .1) (w .ensures rule ruled)
 

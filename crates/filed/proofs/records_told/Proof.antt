@@ -1,10 +1,10 @@
 -- `records_told` meets its contract: the records so far are told, and behind them stand zeros. Assumes nothing.
-use mathlib.Core.Path.{_≡_, refl, ap, _∙_}
-use mathlib.Core.List.{List, _++_, map}
-use Prim.Native.Nat.{_-_, _+_, _≤_, min}
+use mathlib.Core.Path.{_≡_, refl, _∙_}
+use mathlib.Core.List.{map}
+use Prim.Native.Nat.{_-_, _≤_}
 use native.Mathlib.Omega.{arith}
-use lib.ListN.{length, take, drop, getD, replicate, length-set}
-use Rattle.reader.specs.Read.{blank}
+use lib.ListN.{length, take, drop, replicate, length-set}
+use Rattle.watchfile.specs.Format.{blank}
 use Rattle.filed.specs.Files.{recordIn, nothing}
 use Rattle.filed.proofs.RecordLaws.{worked-on, behind-on, worked-places}
 use borrow.Author.Needs.{needs}

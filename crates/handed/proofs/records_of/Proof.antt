@@ -1,16 +1,15 @@
 -- `records_of` meets its contract: the records so far are those handed over, and behind them stand blank ones. Assumes nothing.
 use mathlib.Core.Path.{_≡_, refl, ap, _∙_}
-use mathlib.Core.List.{List, map}
-use Prim.Native.Nat.{_-_, _+_, _≤_, min}
+use mathlib.Core.List.{map}
+use Prim.Native.Nat.{_-_, _≤_, min}
 use native.Mathlib.Omega.{arith}
 use lib.ListN.{length, take, drop, getD, replicate, length-set}
+use Rattle.watchfile.specs.Format.{blank}
 use Rattle.watchfile.specs.declared.Body.{Body}
 use Rattle.watchfile.specs.declared.Record.{Record}
-use Rattle.reader.specs.Read.{blank}
 use Rattle.filed.specs.Files.{nothing}
-use Rattle.filed.specs.declared.FileRecord.{FileRecord}
 use Rattle.filed.proofs.RecordLaws.{worked-on, worked-whole, behind-on, behind-whole}
-use Rattle.handed.specs.Handed.{bodyOf, recordOf}
+use Rattle.handed.specs.Handed.{recordOf}
 use borrow.Author.Needs.{needs}
 use Rattle.handed.proofs.records_of.Statement.{statement}
 use Rattle.handed.proofs.records_of.Tie as tie

@@ -20,7 +20,7 @@ enum-known-verdict c = search needs
 put-listing-requires : tie.Need-put-listing-requires
 put-listing-requires c κs =
     let h = c .before .before .before .before .before .read .ensures (the-rule .0) (the-rule .1) in
-    good-count (the-rule .0) (c .before .before .before .before .before .before .before .before .before .args .file .now) _ (sym (ap verdictAs (c .before .before .verdict .given .1)) ∙ h .verdict)
+    good-count (the-rule .0) (c .before .before .before .before .before .before .before .before .before .args .file .now) _ _ (sym (h .verdict) ∙ ap verdictAs (c .before .before .verdict .given .1)) (h .records)
 
 enum-known-verdict-2 : tie.Need-enum-known-verdict-2
 enum-known-verdict-2 c = search needs
@@ -37,7 +37,7 @@ returns-2 c =
     let s = c .before .before .before .before .before .before .before .before .before .before .before .before in
     let h = c .before .before .before .before .before .before .before .before .read .ensures rule ruled in
     good-lists (s .args .text .now) rule (s .args .file .now) (λ i. c .before .before .before .before .before .before .before .before .before .before .before .shared-slice-known .given i .fits) (omega arith) (omega arith)
-    (sym (ap verdictAs (c .before .before .before .before .before .verdict .given .1)) ∙ h .verdict) (h .records) (c .before .before .put-listing .ensures)
+    (sym (h .verdict) ∙ ap verdictAs (c .before .before .before .before .before .verdict .given .1)) (h .records) (c .before .before .put-listing .ensures)
 
 same-length-2 : tie.Need-same-length-2
 same-length-2 c = search needs
@@ -48,7 +48,7 @@ returns-3 c =
     let s = c .before .before .before .before .before .before .before .before .before .before .before .before in
     let h = c .before .before .before .before .before .before .before .before .read .ensures rule ruled in
     broken-lists (s .args .text .now) rule (s .args .file .now) (λ i. c .before .before .before .before .before .before .before .before .before .before .before .shared-slice-known .given i .fits) (omega arith) (omega arith)
-    (sym (ap verdictAs (c .before .before .before .before .before .verdict2 .given .1)) ∙ h .verdict) (c .before .before .put-refusal .ensures)
+    (sym (h .verdict) ∙ ap verdictAs (c .before .before .before .before .before .verdict2 .given .1)) (c .before .before .put-refusal .ensures)
 
 pub list-spec : {M : Type 1} → statement M
 list-spec =

@@ -8,13 +8,12 @@ use lib.IntN.{ℤ}
 use lib.ListN.{length, take, drop, getD, replicate, length-set}
 use borrow.Author.Needs.{needs}
 use Rattle.number.specs.Refusal.{Answer, refused, given}
-use Rattle.watchfile.specs.Bytes.{le32}
+use Rattle.bytes.specs.Bytes.{le32}
 use Rattle.watchfile.specs.Rules.{sizeOf, rank}
-use Rattle.watchfile.specs.Format.{DewRule, rowsFields, bodyOf, bodiesFields, recordsFrom, startOf}
+use Rattle.watchfile.specs.Format.{DewRule, blank, rowsFields, bodyOf, bodiesFields, recordsFrom, startOf}
 use Rattle.watchfile.specs.declared.Record.{Record}
 use Rattle.watchfile.proofs.DewRules.{the-rule}
 use Rattle.watchfile.proofs.FieldLaws.{Passed, given-passed}
-use Rattle.reader.specs.Read.{blank}
 use Rattle.reader.specs.Work.{found}
 use Rattle.reader.specs.declared.BodyRead.{BodyRead}
 use Rattle.reader.proofs.ContentsLaws.{part, length-part}

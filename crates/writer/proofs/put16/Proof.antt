@@ -6,14 +6,17 @@ use borrow.Author.Needs.{needs}
 use Rattle.writer.proofs.put16.Statement.{statement}
 use Rattle.writer.proofs.put16.Tie as tie
 
-cast-part : tie.Need-cast-part
-cast-part c = search needs
+in-two-requires : tie.Need-in-two-requires
+in-two-requires c κs = search needs
+
+array-read-part : tie.Need-array-read-part
+array-read-part c = search needs
 
 slice-write-part : tie.Need-slice-write-part
 slice-write-part c = search needs
 
-cast-part-2 : tie.Need-cast-part-2
-cast-part-2 c = search needs
+array-read-part-2 : tie.Need-array-read-part-2
+array-read-part-2 c = search needs
 
 add-part : tie.Need-add-part
 add-part c = search needs
@@ -25,15 +28,16 @@ same-length : tie.Need-same-length
 same-length c = search needs
 
 returns : tie.Need-returns
-returns c = rw add-one
+returns c = rw (add-one, c .in-two .ensures)
 
 pub put16-spec : {M : Type 1} → statement M
 put16-spec =
     tie.close
     (tie.spec
-    cast-part
+    in-two-requires
+    array-read-part
     slice-write-part
-    cast-part-2
+    array-read-part-2
     add-part
     slice-write-part-2
     same-length

@@ -7,14 +7,17 @@ use borrow.Author.Needs.{needs}
 use Rattle.writer.proofs.put32.Statement.{statement}
 use Rattle.writer.proofs.put32.Tie as tie
 
-cast-part : tie.Need-cast-part
-cast-part c = search needs
+in-four-requires : tie.Need-in-four-requires
+in-four-requires c κs = search needs
+
+array-read-part : tie.Need-array-read-part
+array-read-part c = search needs
 
 slice-write-part : tie.Need-slice-write-part
 slice-write-part c = search needs
 
-cast-part-2 : tie.Need-cast-part-2
-cast-part-2 c = search needs
+array-read-part-2 : tie.Need-array-read-part-2
+array-read-part-2 c = search needs
 
 add-part : tie.Need-add-part
 add-part c = search needs
@@ -22,8 +25,8 @@ add-part c = search needs
 slice-write-part-2 : tie.Need-slice-write-part-2
 slice-write-part-2 c = simp length-set (omega arith)
 
-cast-part-3 : tie.Need-cast-part-3
-cast-part-3 c = search needs
+array-read-part-3 : tie.Need-array-read-part-3
+array-read-part-3 c = search needs
 
 add-part-2 : tie.Need-add-part-2
 add-part-2 c = search needs
@@ -31,8 +34,8 @@ add-part-2 c = search needs
 slice-write-part-3 : tie.Need-slice-write-part-3
 slice-write-part-3 c = simp length-set (omega arith)
 
-cast-part-4 : tie.Need-cast-part-4
-cast-part-4 c = search needs
+array-read-part-4 : tie.Need-array-read-part-4
+array-read-part-4 c = search needs
 
 add-part-3 : tie.Need-add-part-3
 add-part-3 c = search needs
@@ -45,25 +48,26 @@ same-length c = search needs
 
 returns : tie.Need-returns
 returns c =
-    let at = c .args .at in
+    let at = c .before .before .args .at in
     let e1 : at + 1 ≡ suc at = omega arith in
     let e2 : at + 2 ≡ suc (suc at) = omega arith in
     let e3 : at + 3 ≡ suc (suc (suc at)) = omega arith in
-    rw (e1, e2, e3)
+    rw (e1, e2, e3, c .in-four .ensures)
 
 pub put32-spec : {M : Type 1} → statement M
 put32-spec =
     tie.close
     (tie.spec
-    cast-part
+    in-four-requires
+    array-read-part
     slice-write-part
-    cast-part-2
+    array-read-part-2
     add-part
     slice-write-part-2
-    cast-part-3
+    array-read-part-3
     add-part-2
     slice-write-part-3
-    cast-part-4
+    array-read-part-4
     add-part-3
     slice-write-part-4
     same-length

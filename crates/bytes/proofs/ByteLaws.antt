@@ -1,21 +1,25 @@
--- Numbers and their bytes, there and back; signed numbers in two bytes, where they fit. Assumes nothing.
+-- Numbers and their bytes, there and back; signed numbers in two bytes, where they fit; how large a number in so many bytes is.
+-- Assumes nothing.
 use mathlib.Core.Path.{_≡_, refl, ap, _∙_}
 use mathlib.Core.Bool.{Bool, true, false}
-use mathlib.Core.List.{[], _∷_}
+use mathlib.Core.List.{List, [], _∷_}
 use Prim.Native.Nat.{ℕ, suc, _+_, _-_, _*_, _/_, _%_, _≤_, _<_}
 use native.Mathlib.Omega.{arith}
-use lib.Dec.{ltb}
+use native.Mathlib.Decide.{decLt}
+use lib.Dec.{ltb, lit<}
 use lib.IntN.{ℤ, pos, negsuc, natAbs, -ℤ-+ℤ-cancel}
-use borrow.Author.Tests.{lt-ltb, le-ltb}
-use Rattle.watchfile.specs.Bytes.{bytes16, bytes32, signed16, unsigned16}
+use lib.ListN.{length, getD, take, drop, length-take, List·getD-eq-default}
+use lib.Seq.{getD-take, getD-drop}
+use borrow.Author.Tests.{lt-ltb, le-ltb, ltb-true, ltb-false}
+use Rattle.bytes.specs.Bytes.{AreBytes, le16, le32, bytes16, bytes32, signed16, unsigned16}
 
 -- ---- written and read
 
 abbrev pub read16 : ℕ → ℕ
-read16 n = n % 256 + 256 * (n / 256)
+read16 n = le16 (bytes16 n) 0
 
 abbrev pub read32 : ℕ → ℕ
-read32 n = n % 256 + 256 * (n / 256 % 256) + 65536 * (n / 65536 % 256) + 16777216 * (n / 16777216)
+read32 n = le32 (bytes32 n) 0
 
 pub read16-is : (n : ℕ) → read16 n ≡ n
 read16-is n = omega arith
@@ -70,3 +74,35 @@ unsigned-is n h = go (ltb n 32768) refl
     go false e =
         let f : n % 65536 ≡ n = omega arith in
         rw e (ap (λ (z : ℤ). natAbs z % 65536) (-ℤ-+ℤ-cancel (pos n) (pos 65536)) ∙ f)
+
+-- ---- a part of bytes is bytes
+
+pub bytes-drop : (s : List ℕ) (n : ℕ) → AreBytes s → AreBytes (drop n s)
+bytes-drop s n are i = rw (getD-drop n s i 0) (are (n + i))
+
+pub bytes-take : (s : List ℕ) (n : ℕ) → AreBytes s → AreBytes (take n s)
+bytes-take s n are i = go (decLt i n)
+  where
+    go : Dec (i < n) → getD (take n s) i 0 < 256
+    go (yes y) = rw (getD-take n s i 0 y) (are i)
+    go (no z) = rw (List·getD-eq-default (take n s) 0 (short-front (omega arith))) (lit< tt)
+      where
+        short-front : n ≤ i → length (take n s) ≤ i
+        short-front l = omega (arith, length-take n s)
+
+-- ---- how large
+
+pub le16-small : (s : List ℕ) (k : ℕ) → AreBytes s → le16 s k < 65536
+le16-small s k are = omega (arith, are k, are (k + 1))
+
+pub le32-small : (s : List ℕ) (k : ℕ) → AreBytes s → le32 s k < 4294967296
+le32-small s k are = omega (arith, are k, are (k + 1), are (k + 2), are (k + 3))
+
+pub signed16-small : (n : ℕ) → n < 65536 → natAbs (signed16 n) ≤ 32768
+signed16-small n h = go (ltb n 32768) refl
+  where
+    go : (t : Bool) → ltb n 32768 ≡ t → natAbs (signed16 n) ≤ 32768
+    go true e = rw e (omega (arith, ltb-true n 32768 e))
+    go false e =
+        let high = ltb-false n 32768 e in
+        rw (minus n (65535 - n) (omega arith) high) (omega arith)
