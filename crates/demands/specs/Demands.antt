@@ -1,143 +1,112 @@
--- The three demands, sentence by sentence. proofs/Proved.antt proves all of it.
+-- The three demands, sentence by sentence, of calls that the contracts allow. proofs/Proved.antt proves all of it.
 use mathlib.Core.Path.{_≡_}
 use mathlib.Core.Bool.{true}
 use mathlib.Core.List.{List, [], _++_}
 use mathlib.Core.Logic.{_↔_}
 use Prim.Native.Nat.{ℕ, _≤_, _<_}
-use lib.IntN.{ℤ}
+use lib.IntN.{ℤ, pos, natAbs}
 use lib.ListN.{length, take}
-use Rattle.number.specs.Refusal.{Numbered, refused, given, First}
-use Rattle.quantity.specs.declared.MetresPerSecond.{MetresPerSecond}
-use Rattle.quantity.specs.declared.Degrees.{Degrees}
-use Rattle.settings.specs.Settings.{checked}
+use Rattle.number.specs.Refusal.{Numbered, refused, given, Holds, First}
+use Rattle.settings.specs.Settings.{checkedAs}
 use Rattle.settings.specs.Settings as settings
 use Rattle.settings.specs.declared.Settings.{Settings}
+use Rattle.settings.specs.declared.Checked.{Checked}
 use Rattle.cell.specs.Cells.{absent}
-use Rattle.store.specs.Block.{openedBy, hearing, heardBy}
-use Rattle.store.specs.History.{nextOf, history, store-of}
+use Rattle.cell.specs.declared.Recalled.{Recalled}
+use Rattle.cell.specs.declared.Recalled.the-variants.{Missing}
+use Rattle.store.specs.Block.{heardAs}
+use Rattle.store.specs.History.{nextOf, history}
+use Rattle.store.specs.declared.Hearing.{Hearing}
+use Rattle.wind.specs.declared.TrueWind.the-variants.{Blows, OutsideLimits}
 use Rattle.vapour.specs.Vapour.{IsTable}
-use Rattle.humidity.specs.declared.HumidityFigures.{HumidityFigures}
-use Rattle.station.specs.Source.{heard, held}
-use Rattle.station.specs.Questions.{Change, pressureTests, tendencyTests, windTests, humidityTests, foreign}
-use Rattle.station.specs.Told.{pressureAs, tendencyAs, humidityAs, windAs, TellsPressure, TellsTendency, TellsWind, TellsHumidity}
-use Rattle.heard.specs.Feeds.{pressureChannels, windChannels, humidityChannels, fed, readsAt, readsTendency, Replaced, messageTests}
-use Rattle.station.specs.declared.PressureAnswer.{PressureAnswer}
-use Rattle.station.specs.declared.TendencyAnswer.{TendencyAnswer}
-use Rattle.station.specs.declared.WindAnswer.{WindAnswer}
-use Rattle.station.specs.declared.WindAnswer.the-variants as blew
-use Rattle.station.specs.declared.HumidityAnswer.{HumidityAnswer}
-use Rattle.station.specs.declared.HumidityAnswer.the-variants as moist
+use Rattle.station.specs.Source.{heard}
+use Rattle.station.specs.Questions.{Asked, pressure, tendency, wind, humidity, question, Reply, reads, Tells}
+use Rattle.heard.specs.Feeds.{SameSettings, fedTo, Replaced, messageTests}
 use Rattle.watchfile.specs.Bytes.{AreBytes}
-use Rattle.watchfile.specs.Fields.{fieldTests}
-use Rattle.watchfile.specs.Format.{DewRule, fields, reading, writing, writeTests, fileOf, recordRight}
+use Rattle.watchfile.specs.Format.{DewRule, writeTests, recordRight}
 use Rattle.watchfile.specs.declared.Record.{Record}
-use Rattle.reader.specs.Read.{HandsBack}
 use Rattle.reader.specs.declared.FileRead.{FileRead}
-use Rattle.reader.specs.declared.Verdict.the-variants.{Broken}
-use Rattle.writer.specs.Write.{Wrote, writtenAs}
+use Rattle.reader.specs.declared.Verdict.the-variants.{Good}
+use Rattle.writer.specs.Write.{writtenAs}
 use Rattle.writer.specs.declared.Written.{Written}
+use Rattle.writer.specs.declared.Written.the-variants.{Done}
+use Rattle.listing.specs.declared.Listed.{Listed}
 use Rattle.desk.specs.Records.{pressureRecord, tendencyRecord, windRecord, humidityRecord}
-
--- ---- a station at work
-
--- Settings that a store opens with.
-abbrev pub Good : Settings → Type 0
-Good g = checked g ≡ given tt
-
--- A store was opened with g, has heard the messages M (the newest first, the refused ones among them), and answers a question at
--- minute m with r: the contract of that question on the block of that store.
-abbrev pub AsksPressure : Settings → List (List ℕ) → ℕ → PressureAnswer → Type 0
-AsksPressure g M m r = TellsPressure (held (store-of g M)) m r
-
-abbrev pub AsksTendency : Settings → List (List ℕ) → ℕ → TendencyAnswer → Type 0
-AsksTendency g M m r = TellsTendency (held (store-of g M)) m r
-
-abbrev pub AsksWind : Settings → List (List ℕ) → ℕ → WindAnswer → Type 0
-AsksWind g M m r = TellsWind (held (store-of g M)) m r
-
-abbrev pub AsksHumidity : Settings → List (List ℕ) → ℕ → HumidityAnswer → Type 0
-AsksHumidity g M m r = TellsHumidity (foreign (held (store-of g M)) m) (held (store-of g M)) m r
+use Rattle.desk.specs.declared.Entry.{Entry}
+use Rattle.desk.specs.declared.Entry.the-variants as entry
+use Rattle.demands.specs.Working.{Opens, Hears, Recalls, Asks, Working, Replies, ReadsFile, WritesFile, ListsFile, Enters}
 
 -- ---- 1. "Any message, setting, question or file gets an answer or, exactly when its reason holds and no earlier test has refused, one
 -- of the numbered refusals, and the work always ends. Callers are never trusted to have checked." (That each function answers whatever
 -- it is given, and ends, is what the prover checks of each: no contract here has a `requires`.)
 
 pub record Demand1 : Type 0 where
-  pub message : (g : Settings) → Good g → (M : List (List ℕ)) (m : List ℕ) (n : ℕ) → (hearing (store-of g M) m ≡ refused n) ↔ First (messageTests g M m) n
-  pub setting : (g : Settings) (n : ℕ) → (checked g ≡ refused n) ↔ First (settings.tests g) n
-  pub pressure : (g : Settings) → Good g → (M : List (List ℕ)) (m : ℕ) (r : PressureAnswer) → AsksPressure g M m r
-      → (n : Numbered) → (pressureAs r ≡ refused n) ↔ First (pressureTests (heard g M) m) n
-  pub tendency : (g : Settings) → Good g → (M : List (List ℕ)) (m : ℕ) (r : TendencyAnswer) → AsksTendency g M m r
-      → (n : Numbered) → (tendencyAs r ≡ refused n) ↔ First (tendencyTests (heard g M) m) n
-  pub wind : (g : Settings) → Good g → (M : List (List ℕ)) (m : ℕ) (r : WindAnswer) → AsksWind g M m r
-      → (n : Numbered) → (windAs r ≡ refused n) ↔ First (windTests (heard g M) m) n
-  pub humidity : (g : Settings) → Good g → (M : List (List ℕ)) (m : ℕ) (r : HumidityAnswer) → AsksHumidity g M m r
-      → (table : ℤ → ℕ) → IsTable table → (n : Numbered) → (humidityAs r ≡ refused n) ↔ First (humidityTests [] table (heard g M) m) n
-  pub write : (dew : ℕ → ℤ) (all : List Record) (count : ℕ) (before after : List ℕ) (w : Written) → Wrote dew all count before after w
+  pub setting : (b : List ℕ) (g : Settings) (c : Checked) (b′ : List ℕ) → Opens b g c b′
+      → (n : ℕ) → (checkedAs c ≡ refused n) ↔ First (settings.tests g) n
+  pub message : (g : Settings) (M : List (List ℕ)) (b : List ℕ) → Working g M b → (m : List ℕ) (h : Hearing) (b′ : List ℕ) → Hears b m h b′
+      → (n : ℕ) → (heardAs h ≡ refused n) ↔ First (messageTests g M m) n
+  pub asked : (q : Asked) (g : Settings) (M : List (List ℕ)) (m : ℕ) (x : Reply q) → Replies q g M m x
+      → (table : ℤ → ℕ) → IsTable table → (n : Numbered) → (question q .told x ≡ refused n) ↔ First (question q .tests [] table (heard g M) m) n
+  pub write : (dew : ℕ → ℤ) → DewRule dew → (all : List Record) (count : ℕ) (before after : List ℕ) (w : Written) → WritesFile all count before w after
       → (n : Numbered) → (writtenAs w ≡ refused n) ↔ First (writeTests dew all count (length before)) n
-  pub file : (dew : ℕ → ℤ) (s : List ℕ) (r : FileRead) → HandsBack (reading dew s) r
-      → (place : ℕ) → (r .verdict ≡ Broken place) ↔ First (fieldTests (length s) (fields dew s)) place
-  -- "A refused message or question changes nothing in the store, and a refused write changes no byte lent to it." (A question is lent
-  -- the block as `&`, through which no code can write.)
-  pub refused-message : (s m : List ℕ) (n : ℕ) → hearing s m ≡ refused n → heardBy s m ≡ s
-  pub refused-opening : (s : List ℕ) (g : Settings) (n : ℕ) → checked g ≡ refused n → openedBy s g ≡ s
-  pub refused-write : (dew : ℕ → ℤ) (all : List Record) (count : ℕ) (before after : List ℕ) (w : Written) (n : Numbered)
-      → Wrote dew all count before after w → writtenAs w ≡ refused n → after ≡ before
+  -- Settings that no test refuses open a store, on any memory, and it goes on whatever it is sent.
+  pub opens : (b : List ℕ) (g : Settings) (c : Checked) (b′ : List ℕ) → Opens b g c b′ → ((n : ℕ) → Holds (settings.tests g) n → ⊥) → Working g [] b′
+  pub goes-on : (g : Settings) (M : List (List ℕ)) (b : List ℕ) → Working g M b → (m : List ℕ) → (h : Hearing) × (b′ : List ℕ) × Hears b m h b′
+  -- "A refused message or question changes nothing in the store, and a refused write changes no byte lent to it." A refused opening
+  -- leaves the block too, and a refused listing the text.
+  pub refused-opening : (b : List ℕ) (g : Settings) (c : Checked) (b′ : List ℕ) (n : ℕ) → Opens b g c b′ → checkedAs c ≡ refused n → b′ ≡ b
+  pub refused-message : (b m : List ℕ) (h : Hearing) (b′ : List ℕ) (n : ℕ) → Hears b m h b′ → heardAs h ≡ refused n → b′ ≡ b
+  pub refused-question : (q : Asked) (b : List ℕ) (m : ℕ) (x : Reply q) (b′ : List ℕ) (n : Numbered) → Asks q b m x b′ → question q .told x ≡ refused n → b′ ≡ b
+  pub refused-write : (all : List Record) (count : ℕ) (before after : List ℕ) (w : Written) (n : Numbered)
+      → WritesFile all count before w after → writtenAs w ≡ refused n → after ≡ before
+
 
 -- ---- 2. "Pressure, tendency, true wind and humidity are exactly those that RD 52.04.651 defines, as document 01 fixes it, worked from
 -- the readings heard, and refused only for the listed reasons."
 
+-- The record of an answer's figures, sign and all.
+abbrev pub RecordOf : (q : Asked) → ℕ → question q .Figures → Record → Type 0
+RecordOf pressure m p r = (p ≡ pos (natAbs p)) × (r ≡ pressureRecord m p)
+RecordOf tendency m t r = r ≡ tendencyRecord m t
+RecordOf wind m (Blows v d) r = r ≡ windRecord m v d
+RecordOf wind m OutsideLimits r = ⊥
+RecordOf humidity m h r = r ≡ humidityRecord m h
+
 pub record Demand2 : Type 0 where
-  pub pressure : (g : Settings) → Good g → (M : List (List ℕ)) (m : ℕ) (r : PressureAnswer) → AsksPressure g M m r → TellsPressure (heard g M) m r
-  pub tendency : (g : Settings) → Good g → (M : List (List ℕ)) (m : ℕ) (r : TendencyAnswer) → AsksTendency g M m r → TellsTendency (heard g M) m r
-  pub wind : (g : Settings) → Good g → (M : List (List ℕ)) (m : ℕ) (r : WindAnswer) → AsksWind g M m r → TellsWind (heard g M) m r
-  pub humidity : (g : Settings) → Good g → (M : List (List ℕ)) (m : ℕ) (r : HumidityAnswer) → AsksHumidity g M m r → TellsHumidity [] (heard g M) m r
-  -- Every answer makes a record that the watch file takes.
-  pub pressure-recorded : (g : Settings) → Good g → (M : List (List ℕ)) (m : ℕ) (r : PressureAnswer) (p : ℤ) → AsksPressure g M m r → pressureAs r ≡ given p
-      → (dew : ℕ → ℤ) → recordRight dew 0 (pressureRecord m p) ≡ true
-  pub tendency-recorded : (g : Settings) → Good g → (M : List (List ℕ)) (m : ℕ) (r : TendencyAnswer) (t : Change) → AsksTendency g M m r → tendencyAs r ≡ given t
-      → (dew : ℕ → ℤ) → recordRight dew 0 (tendencyRecord m t) ≡ true
-  pub wind-recorded : (g : Settings) → Good g → (M : List (List ℕ)) (m : ℕ) (v : MetresPerSecond) (d : Degrees) → AsksWind g M m (blew.Given v d)
-      → (dew : ℕ → ℤ) → recordRight dew 0 (windRecord m v d) ≡ true
-  pub humidity-recorded : (g : Settings) → Good g → (M : List (List ℕ)) (m : ℕ) (h : HumidityFigures) → AsksHumidity g M m (moist.Given h)
-      → (dew : ℕ → ℤ) → DewRule dew → recordRight dew 0 (humidityRecord m h) ≡ true
-  -- "A good watch file read and written again has the same bytes, and accepted records written and read again are the same."
-  pub file-again : (dew : ℕ → ℤ) (s : List ℕ) (rs all : List Record) (room : ℕ) → AreBytes s → reading dew s ≡ given rs
-      → take (length rs) all ≡ rs → length s ≤ room → writing dew all (length rs) room ≡ given s
-  pub records-again : (dew : ℕ → ℤ) → DewRule dew → (all : List Record) (count room : ℕ) (bytes : List ℕ)
-      → writing dew all count room ≡ given bytes → reading dew bytes ≡ given (take count all)
+  pub told : (q : Asked) (g : Settings) (M : List (List ℕ)) (m : ℕ) (x : Reply q) → Replies q g M m x → Tells q (heard g M) m x
+  -- Every figure makes a record that a watch file takes.
+  pub recorded : (q : Asked) (g : Settings) (M : List (List ℕ)) (m : ℕ) (x : Reply q) → Replies q g M m x → (e : Entry) → Enters q m x e
+      → (f : question q .Figures) → question q .told x ≡ given f
+      → (r : Record) × (e ≡ entry.Record r) × (RecordOf q m f r) × ((dew : ℕ → ℤ) → DewRule dew → recordRight dew 0 r ≡ true)
+  -- "A good watch file read and written again has the same bytes,": in any buffer that has room for them
+  pub file-again : (s : List ℕ) → AreBytes s → (x : FileRead) (count : ℕ) → ReadsFile s x → x .verdict ≡ Good count
+      → (before after : List ℕ) (w : Written) → length s ≤ length before → WritesFile (x .records) count before w after
+      → (w ≡ Done (length s)) × (take (length s) after ≡ s)
+  -- "and accepted records written and read again are the same." (There are 48 places, and no more are accepted.)
+  pub records-again : (all : List Record) (count : ℕ) (before after : List ℕ) (size : ℕ) → count ≤ length all → WritesFile all count before (Done size) after
+      → (x : FileRead) → ReadsFile (take size after) x → (x .verdict ≡ Good count) × (take count (x .records) ≡ take count all)
 
 -- ---- 3. "Open two stores with the same settings and send each any messages, bad ones included."
+
+-- After the messages M a minute of a channel is missing, and the channel has accepted a later one.
+pub record Passed (g : Settings) (M : List (List ℕ)) (c j : ℕ) : Type 0 where
+  pub missing : heard g M .recall c j ≡ absent
+  pub later : j < nextOf (history (g .unit) c M)
 
 pub record Demand3 : Type 0 where
   -- "If the messages of the channels that feed an answer are alike and in the same order, that answer, its refusal and its count of
   -- missing minutes are alike,"
-  pub pressure : (g : Settings) → Good g → (M N : List (List ℕ)) (m : ℕ) → fed pressureChannels M ≡ fed pressureChannels N
-      → (r r′ : PressureAnswer) → AsksPressure g M m r → AsksPressure g N m r′ → r ≡ r′
-  pub tendency : (g : Settings) → Good g → (M N : List (List ℕ)) (m : ℕ) → fed pressureChannels M ≡ fed pressureChannels N
-      → (r r′ : TendencyAnswer) → AsksTendency g M m r → AsksTendency g N m r′ → r ≡ r′
-  pub wind : (g : Settings) → Good g → (M N : List (List ℕ)) (m : ℕ) → fed windChannels M ≡ fed windChannels N
-      → (r r′ : WindAnswer) → AsksWind g M m r → AsksWind g N m r′ → r ≡ r′
-  pub humidity : (g : Settings) → Good g → (M N : List (List ℕ)) (m : ℕ) → fed humidityChannels M ≡ fed humidityChannels N
-      → (r r′ : HumidityAnswer) → AsksHumidity g M m r → AsksHumidity g N m r′ → r ≡ r′
+  pub alike : (q : Asked) (g h : Settings) → SameSettings g h → (M N : List (List ℕ)) (m : ℕ) → fedTo q M ≡ fedTo q N
+      → (x y : Reply q) → Replies q g M m x → Replies q h N m y → x ≡ y
   -- "and are what demand 2 gives for those messages alone."
-  pub pressure-alone : (g : Settings) → Good g → (M : List (List ℕ)) (m : ℕ) (r : PressureAnswer) → AsksPressure g M m r
-      → TellsPressure (heard g (fed pressureChannels M)) m r
-  pub tendency-alone : (g : Settings) → Good g → (M : List (List ℕ)) (m : ℕ) (r : TendencyAnswer) → AsksTendency g M m r
-      → TellsTendency (heard g (fed pressureChannels M)) m r
-  pub wind-alone : (g : Settings) → Good g → (M : List (List ℕ)) (m : ℕ) (r : WindAnswer) → AsksWind g M m r
-      → TellsWind (heard g (fed windChannels M)) m r
-  pub humidity-alone : (g : Settings) → Good g → (M : List (List ℕ)) (m : ℕ) (r : HumidityAnswer) → AsksHumidity g M m r
-      → TellsHumidity [] (heard g (fed humidityChannels M)) m r
+  pub alone : (q : Asked) (g : Settings) (M : List (List ℕ)) (m : ℕ) (x : Reply q) → Replies q g M m x → Tells q (heard g (fedTo q M)) m x
   -- "Replacing fed values by other acceptable ones at minutes the answer doesn't read changes nothing either."
-  pub pressure-replaced : (g : Settings) → Good g → (M N : List (List ℕ)) (m : ℕ) → Replaced (g .unit) (readsAt pressureChannels m) M N
-      → (r r′ : PressureAnswer) → AsksPressure g M m r → AsksPressure g N m r′ → r ≡ r′
-  pub tendency-replaced : (g : Settings) → Good g → (M N : List (List ℕ)) (m : ℕ) → Replaced (g .unit) (readsTendency m) M N
-      → (r r′ : TendencyAnswer) → AsksTendency g M m r → AsksTendency g N m r′ → r ≡ r′
-  pub wind-replaced : (g : Settings) → Good g → (M N : List (List ℕ)) (m : ℕ) → Replaced (g .unit) (readsAt windChannels m) M N
-      → (r r′ : WindAnswer) → AsksWind g M m r → AsksWind g N m r′ → r ≡ r′
-  pub humidity-replaced : (g : Settings) → Good g → (M N : List (List ℕ)) (m : ℕ) → Replaced (g .unit) (readsAt humidityChannels m) M N
-      → (r r′ : HumidityAnswer) → AsksHumidity g M m r → AsksHumidity g N m r′ → r ≡ r′
-  -- "A missing minute stays missing once its channel has accepted a later one.": whatever N is heard after M
-  pub missing-stays : (g : Settings) (M N : List (List ℕ)) (c j : ℕ) → heard g M .recall c j ≡ absent → j < nextOf (history (g .unit) c M)
-      → heard g (N ++ M) .recall c j ≡ absent
+  pub replaced : (q : Asked) (g h : Settings) → SameSettings g h → (M N : List (List ℕ)) (m : ℕ) → Replaced (g .unit) (reads q m) M N
+      → (x y : Reply q) → Replies q g M m x → Replies q h N m y → x ≡ y
+  -- "A missing minute stays missing once its channel has accepted a later one.": whatever N is heard after M. So it is of the messages,
+  -- so a block recalls it, and no question that reads it is answered with figures.
+  pub missing-stays : (g : Settings) (M N : List (List ℕ)) (c j : ℕ) → Passed g M c j → heard g (N ++ M) .recall c j ≡ absent
+  pub recall-stays : (g : Settings) (M N : List (List ℕ)) (c j : ℕ) → Passed g M c j
+      → (b : List ℕ) → Working g (N ++ M) b → (x : Recalled) → Recalls b c j x → x ≡ Missing
+  pub answer-stays : (q : Asked) (g : Settings) (M N : List (List ℕ)) (c j m : ℕ) → Passed g M c j → reads q m c j ≡ true
+      → (x : Reply q) → Replies q g (N ++ M) m x → (n : Numbered) × (question q .told x ≡ refused n)
