@@ -1,7 +1,9 @@
 pub mod RecordedFigures
 pub mod RecordLaws
+pub mod WorkingLaws
+pub mod MissingLaws
 pub mod EnteredAnswers
+pub mod FileLaws
 pub mod Proved
-pub mod OneAnswerEach
 pub mod WatchAnswers
 pub mod NoEmptyProgram

@@ -1,82 +1,140 @@
 -- The three demands hold. Each sentence from the theorem of the crate that it is about. Assumes nothing.
 use mathlib.Core.Path.{_≡_, refl, sym, ap, subst, _∙_}
-use mathlib.Core.List.{List, []}
+use mathlib.Core.Bool.{Bool, true, false, cond}
+use mathlib.Core.List.{List, [], _∷_}
 use mathlib.Core.Logic.{_↔_}
 use Prim.Native.Nat.{ℕ}
 use native.Mathlib.Omega.{arith}
+use denote.Ref.{RefT, at-last}
 use lib.IntN.{ℤ}
 use lib.ListN.{length}
-use Rattle.number.specs.Refusal.{Numbered, Answer, refused, given, First}
-use Rattle.number.proofs.RefusalLaws.{refused-exactly}
-use Rattle.settings.specs.Settings.{checked}
+use Rattle.number.specs.Refusal.{Numbered, Test, Answer, refused, given, answer, Holds, First}
+use Rattle.number.proofs.RefusalLaws.{refused-exactly, then-given}
+use Rattle.message.specs.Receive.{Entry}
+use Rattle.settings.specs.Settings.{checked, checkedAs}
 use Rattle.settings.specs.Settings as settings
 use Rattle.settings.specs.declared.Settings.{Settings}
-use Rattle.store.specs.Block.{openedBy, hearing}
+use Rattle.settings.specs.declared.Checked.{Checked}
+use Rattle.settings.specs.declared.Checked.the-variants as opening
+use Rattle.settings.proofs.SingleAnswers.{case-of, case-back}
+use Rattle.wire.specs.declared.MessageRefusal.the-variants.{NotSixteenBytes, NoSuchChannel, ByteNotZero, WetBulbNotWater, MinuteTooLate, NotFinite, OutsideLimits}
+use Rattle.store.specs.Block.{openedBy, hearing, hearTests, entryOfBytes, heardAs, heardBy, outcome}
 use Rattle.store.specs.History.{store-of}
-use Rattle.store.proofs.StoreTheorems.{refused-changes-nothing, stays-absent-on}
+use Rattle.store.specs.declared.Hearing.{Hearing}
+use Rattle.store.specs.declared.Hearing.the-variants.{Heard, Refused, NotLater}
+use Rattle.store.proofs.StoreTheorems.{refused-changes-nothing}
 use Rattle.station.specs.Source.{heard}
-use Rattle.station.specs.Questions.{Answers, pressureTests, PressureRule, tendencyTests, TendencyRule, windTests, WindRule, humidityTests, HumidityRule}
-use Rattle.station.specs.Told.{pressureAs, tendencyAs, windAs, humidityAs, TellsPressure, TellsTendency, TellsWind, TellsHumidity}
-use Rattle.heard.specs.Feeds.{pressureChannels, windChannels, humidityChannels, fed, wouldKeep, messageTests}
-use Rattle.station.specs.declared.WindAnswer.the-variants as blew
-use Rattle.station.specs.declared.HumidityAnswer.the-variants as moist
+use Rattle.station.specs.Questions.{Asked, question, Reply, Tells}
+use Rattle.station.proofs.SingleAnswers.{one-reply}
+use Rattle.heard.specs.Feeds.{SameSettings, fedTo, Replaced, wouldKeep, messageTests}
 use Rattle.heard.proofs.RefusalsInOrder.{question-refused, message-by-messages}
-use Rattle.heard.proofs.StoreLaws.{pressure-by-messages, tendency-by-messages, wind-by-messages, humidity-by-messages}
-use Rattle.heard.proofs.FedLaws.{pressure-fed, tendency-fed, wind-fed, humidity-fed, fed-again}
-use Rattle.heard.proofs.ReplacedLaws as replaced
-use Rattle.station.proofs.SingleAnswers.{one-pressure, one-tendency, one-wind, one-humidity-answer}
-use Rattle.watchfile.specs.Format.{writing, writeTests}
+use Rattle.heard.proofs.FedLaws.{same-fed, fed-again}
+use Rattle.heard.proofs.ReplacedLaws.{same-replaced}
+use Rattle.heard.proofs.SettingsAlike.{same-store}
+use Rattle.watchfile.specs.Format.{DewRule, writing, writeTests}
 use Rattle.watchfile.specs.declared.Record.{Record}
-use Rattle.reader.proofs.RefusalsInOrder.{read-refused}
+use Rattle.watchfile.proofs.DewRules.{the-rule}
 use Rattle.writer.specs.Write.{Wrote, writtenAs, sized}
 use Rattle.writer.specs.declared.Written.{Written}
 use Rattle.writer.proofs.RefusalsInOrder.{writes-in-order}
-use Rattle.writer.proofs.RoundTrips.{read-then-written, written-then-read}
 use Rattle.writer.proofs.WriteTheorems.{refused-leaves-every-byte}
-use Rattle.demands.specs.Demands.{Good, Demand1, Demand2, Demand3}
-use Rattle.demands.proofs.RecordLaws.{pressure-record, tendency-record, wind-record, humidity-record}
+use Rattle.demands.specs.Working.{Opens, Hears, Working, Replies, WritesFile}
+use Rattle.demands.specs.Demands.{Demand1, Demand2, Demand3}
+use Rattle.demands.proofs.WorkingLaws.{open-answer, open-block, hear-answer, hear-block, asks-told, asks-leaves, good, block, replies, replies-on}
+use Rattle.demands.proofs.FileLaws.{write-is, file-again, records-again}
+use Rattle.demands.proofs.EnteredAnswers.{recorded}
+use Rattle.demands.proofs.MissingLaws.{missing, recall-missing, answer-missing}
 
 -- ---- 1
 
-by-messages : (g : Settings) → Good g → (M : List (List ℕ)) (m : List ℕ) (n : ℕ) → (hearing (store-of g M) m ≡ refused n) ↔ First (messageTests g M m) n
-by-messages g good M m n =
-    let law = refused-exactly (wouldKeep g m) (messageTests g M m) n in
-    let is = message-by-messages g good M m in
-    (λ e. law .0 (sym is ∙ e), λ w. is ∙ law .1 w)
-
-by-settings : (g : Settings) (n : ℕ) → (checked g ≡ refused n) ↔ First (settings.tests g) n
+by-settings : (b : List ℕ) (g : Settings) (c : Checked) (b′ : List ℕ) → Opens b g c b′ → (n : ℕ) → (checkedAs c ≡ refused n) ↔ First (settings.tests g) n
 unfolding checked
-by-settings g n = refused-exactly tt (settings.tests g) n
+by-settings b g c b′ w n =
+    let law = refused-exactly tt (settings.tests g) n in
+    let is = open-answer b g c b′ w in
+    (λ e. law .0 (sym is ∙ e), λ f. is ∙ law .1 f)
+
+-- hearing, told without what is kept
+outcome-refused : (a : Answer ℕ Entry) (n : ℕ) → (outcome a ≡ refused n) ↔ (a ≡ refused n)
+outcome-refused (refused k) n = (λ e. let z : k ≡ n = cc in ap refused z, λ e. let z : k ≡ n = cc in ap refused z)
+outcome-refused (given e) n = (λ e. absurd (let z : _≡_ {A = ℕ} 0 1 = cc in omega arith), λ e. absurd (let z : _≡_ {A = ℕ} 0 1 = cc in omega arith))
+
+by-messages : (g : Settings) (M : List (List ℕ)) (b : List ℕ) → Working g M b → (m : List ℕ) (h : Hearing) (b′ : List ℕ) → Hears b m h b′
+    → (n : ℕ) → (heardAs h ≡ refused n) ↔ First (messageTests g M m) n
+by-messages g M b w m h b′ v n =
+    let law = refused-exactly (wouldKeep g m) (messageTests g M m) n in
+    let is = hear-answer b m h b′ v ∙ ap (λ (s : List ℕ). outcome (hearing s m)) (block g M b w) in
+    let told = outcome-refused (hearing (store-of g M) m) n in
+    let by = message-by-messages g (good g M b w) M m in
+    (λ e. law .0 (sym by ∙ told .0 (sym is ∙ e)), λ f. is ∙ told .1 (by ∙ law .1 f))
 
 sized-back : (a : Answer Numbered (List ℕ)) (n : Numbered) → sized a ≡ refused n → a ≡ refused n
 sized-back (refused r) n e = let z : r ≡ n = cc in ap refused z
 sized-back (given s) n e = absurd (let z : _≡_ {A = ℕ} 0 1 = cc in omega arith)
 
-by-records : (dew : ℕ → ℤ) (all : List Record) (count : ℕ) (before after : List ℕ) (w : Written) → Wrote dew all count before after w
+by-records : (dew : ℕ → ℤ) → DewRule dew → (all : List Record) (count : ℕ) (before after : List ℕ) (w : Written) → WritesFile all count before w after
     → (n : Numbered) → (writtenAs w ≡ refused n) ↔ First (writeTests dew all count (length before)) n
-by-records dew all count before after w h n =
+by-records dew ruled all count before after w v n =
     let law = writes-in-order dew all count (length before) n in
+    let h = write-is all count before w after v dew ruled in
     (λ e. law .0 (sized-back (writing dew all count (length before)) n (sym (h .answer) ∙ e)), λ f. h .answer ∙ ap sized (law .1 f))
+
+-- settings that no test refuses are good
+opens : (b : List ℕ) (g : Settings) (c : Checked) (b′ : List ℕ) → Opens b g c b′ → ((n : ℕ) → Holds (settings.tests g) n → ⊥) → Working g [] b′
+unfolding checked Working
+opens b g c b′ w none =
+    let is : checkedAs c ≡ given tt = open-answer b g c b′ w ∙ then-given tt (settings.tests g) none in
+    let same : c ≡ opening.Good = sym (case-back c) ∙ ap case-of is ∙ case-back opening.Good in
+    (b, subst (λ (x : Checked). Opens b g x b′) same w)
 
 opening-leaves : (s : List ℕ) (g : Settings) (n : ℕ) → checked g ≡ refused n → openedBy s g ≡ s
 unfolding openedBy
 opening-leaves s g n e = rw e
 
+-- every number that a message may be refused with is that of some answer
+abbrev Told : List (Test ℕ) → Type 0
+Told [] = Unit
+Told (t ∷ ts) = ((h : Hearing) × (heardAs h ≡ refused (t .refusal))) × Told ts
+
+some-answer : (ts : List (Test ℕ)) → Told ts → (e : Entry) → (h : Hearing) × (heardAs h ≡ outcome (answer ts e))
+unfolding answer
+some-answer [] all e = (Heard, refl)
+some-answer (t ∷ ts) all e = go (t .holds) (all .0) (some-answer ts (all .1) e)
+  where
+    go : (b : Bool) → (h : Hearing) × (heardAs h ≡ refused (t .refusal)) → (h : Hearing) × (heardAs h ≡ outcome (answer ts e))
+        → (h : Hearing) × (heardAs h ≡ outcome (cond b (refused (t .refusal)) (answer ts e)))
+    go true now later = now
+    go false now later = later
+
+lent : List ℕ → RefT (List ℕ)
+lent s = record { ptr = (0, 0); name = 0; now = s }
+
+goes-on : (b m : List ℕ) → (h : Hearing) × (b′ : List ℕ) × Hears b m h b′
+unfolding hearing lent
+goes-on b m =
+    let a = some-answer (hearTests b m)
+        ((Refused NotSixteenBytes, refl), ((Refused NoSuchChannel, refl), ((Refused ByteNotZero, refl), ((Refused WetBulbNotWater, refl),
+        ((Refused MinuteTooLate, refl), ((Refused NotFinite, refl), ((Refused OutsideLimits, refl), ((NotLater, refl), tt))))))))
+        (entryOfBytes b m) in
+    (a .0, heardBy b m,
+    (([], ([], tt)), (lent b, (lent m, tt)), a .0, (at-last (lent b) (heardBy b m), (lent m, tt)), record { answer = a .1; block = refl }, (refl, refl, refl, refl)))
+
 pub demand-1 : Demand1
 demand-1 =
     record {
-      message = by-messages;
       setting = by-settings;
-      pressure = λ g good M m r w n. question-refused (pressureTests (heard g M) m) (PressureRule (heard g M) m) (pressureAs r) (pressure-by-messages g good M m r w) n;
-      tendency = λ g good M m r w n. question-refused (tendencyTests (heard g M) m) (TendencyRule (heard g M) m) (tendencyAs r) (tendency-by-messages g good M m r w) n;
-      wind = λ g good M m r w n. question-refused (windTests (heard g M) m) (WindRule (heard g M) m) (windAs r) (wind-by-messages g good M m r w) n;
-      humidity = λ g good M m r w table tabled n.
-          question-refused (humidityTests [] table (heard g M) m) (HumidityRule (heard g M) m) (humidityAs r) (humidity-by-messages g good M m r w table tabled) n;
+      message = by-messages;
+      asked = λ q g M m x w table tabled n.
+          question-refused (question q .tests [] table (heard g M) m) (question q .Rule (heard g M) m) (question q .told x) (replies q g M m x w table tabled) n;
       write = by-records;
-      file = λ dew s r h place. read-refused dew s r h place;
-      refused-message = refused-changes-nothing;
-      refused-opening = opening-leaves;
-      refused-write = λ dew all count before after w n h e. refused-leaves-every-byte dew all count before after w n h e;
+      opens = opens;
+      goes-on = λ g M b w m. goes-on b m;
+      refused-opening = λ b g c b′ n w e. open-block b g c b′ w ∙ opening-leaves b g n (sym (open-answer b g c b′ w) ∙ e);
+      refused-message = λ b m h b′ n w e.
+          hear-block b m h b′ w ∙ refused-changes-nothing b m n (outcome-refused (hearing b m) n .0 (sym (hear-answer b m h b′ w) ∙ e));
+      refused-question = λ q b m x b′ n w e. asks-leaves q b m x b′ w;
+      refused-write = λ all count before after w n v e.
+          refused-leaves-every-byte (the-rule .0) all count before after w n (write-is all count before w after v (the-rule .0) (the-rule .1)) e;
     }
 
 -- ---- 2
@@ -84,18 +142,10 @@ demand-1 =
 pub demand-2 : Demand2
 demand-2 =
     record {
-      pressure = pressure-by-messages;
-      tendency = tendency-by-messages;
-      wind = wind-by-messages;
-      humidity = humidity-by-messages;
-      pressure-recorded = λ g good M m r p w e dew.
-          pressure-record g good M m p (subst (Answers (pressureTests (heard g M) m) (PressureRule (heard g M) m)) e (pressure-by-messages g good M m r w)) dew;
-      tendency-recorded = λ g good M m r t w e dew.
-          tendency-record g good M m t (subst (Answers (tendencyTests (heard g M) m) (TendencyRule (heard g M) m)) e (tendency-by-messages g good M m r w)) dew;
-      wind-recorded = λ g good M m v d w dew. wind-record g good M m v d (wind-by-messages g good M m (blew.Given v d) w) dew;
-      humidity-recorded = λ g good M m h w dew ruled. humidity-record g good M m h (humidity-by-messages g good M m (moist.Given h) w) dew ruled;
-      file-again = λ dew s rs all room are e same enough. read-then-written dew s rs are e all room same enough;
-      records-again = λ dew ruled all count room bytes e. written-then-read dew all count room bytes e ruled;
+      told = replies;
+      recorded = λ q g M m x w e v f is. recorded g (good g M (w .block) (w .working)) M m q x (replies q g M m x w) e v f is;
+      file-again = file-again;
+      records-again = records-again;
     }
 
 -- ---- 3
@@ -103,25 +153,12 @@ demand-2 =
 pub demand-3 : Demand3
 demand-3 =
     record {
-      pressure = λ g good M N m e r r′ v w.
-          one-pressure (heard g N) m r r′ (pressure-fed g M N m e r (pressure-by-messages g good M m r v)) (pressure-by-messages g good N m r′ w);
-      tendency = λ g good M N m e r r′ v w.
-          one-tendency (heard g N) m r r′ (tendency-fed g M N m e r (tendency-by-messages g good M m r v)) (tendency-by-messages g good N m r′ w);
-      wind = λ g good M N m e r r′ v w.
-          one-wind (heard g N) m r r′ (wind-fed g M N m e r (wind-by-messages g good M m r v)) (wind-by-messages g good N m r′ w);
-      humidity = λ g good M N m e r r′ v w.
-          one-humidity-answer [] (heard g N) m r r′ (humidity-fed g M N m e r (humidity-by-messages g good M m r v)) (humidity-by-messages g good N m r′ w);
-      pressure-alone = λ g good M m r w. pressure-fed g M (fed pressureChannels M) m (fed-again pressureChannels M) r (pressure-by-messages g good M m r w);
-      tendency-alone = λ g good M m r w. tendency-fed g M (fed pressureChannels M) m (fed-again pressureChannels M) r (tendency-by-messages g good M m r w);
-      wind-alone = λ g good M m r w. wind-fed g M (fed windChannels M) m (fed-again windChannels M) r (wind-by-messages g good M m r w);
-      humidity-alone = λ g good M m r w. humidity-fed g M (fed humidityChannels M) m (fed-again humidityChannels M) r (humidity-by-messages g good M m r w);
-      pressure-replaced = λ g good M N m e r r′ v w.
-          one-pressure (heard g N) m r r′ (replaced.pressure-replaced g M N m e r (pressure-by-messages g good M m r v)) (pressure-by-messages g good N m r′ w);
-      tendency-replaced = λ g good M N m e r r′ v w.
-          one-tendency (heard g N) m r r′ (replaced.tendency-replaced g M N m e r (tendency-by-messages g good M m r v)) (tendency-by-messages g good N m r′ w);
-      wind-replaced = λ g good M N m e r r′ v w.
-          one-wind (heard g N) m r r′ (replaced.wind-replaced g M N m e r (wind-by-messages g good M m r v)) (wind-by-messages g good N m r′ w);
-      humidity-replaced = λ g good M N m e r r′ v w.
-          one-humidity-answer [] (heard g N) m r r′ (replaced.humidity-replaced g M N m e r (humidity-by-messages g good M m r v)) (humidity-by-messages g good N m r′ w);
-      missing-stays = λ g M N c j a l. stays-absent-on (g .unit) c N M j a l;
+      alike = λ q g h same M N m e x y v w.
+          one-reply q [] [] (heard g N) m x y (same-fed g M N q m e x (replies q g M m x v)) (replies-on q g h same M N m x y v w);
+      alone = λ q g M m x w. same-fed g M (fedTo q M) q m (fed-again (question q .channels) M) x (replies q g M m x w);
+      replaced = λ q g h same M N m e x y v w.
+          one-reply q [] [] (heard g N) m x y (same-replaced g M N q m e x (replies q g M m x v)) (replies-on q g h same M N m x y v w);
+      missing-stays = missing;
+      recall-stays = recall-missing;
+      answer-stays = λ q g M N c j m p r x w. answer-missing g M N c j p q m r x w;
     }

@@ -25,7 +25,8 @@ use Rattle.humidity.specs.Humidity.{vapourPressure, wetAboveDry, tooDry, within
 use Rattle.humidity.specs.declared.HumidityFigures.{HumidityFigures}
 use Rattle.humidity.specs.declared.Moisture.the-variants as moisture
 use Rattle.station.specs.Source.{Source, heard, first}
-use Rattle.station.specs.Questions.{Answers, Change, seaLevelAt, pressureTests, PressureRule, tendencyTests, TendencyRule, windTests, WindRule, humidityTests, HumidityRule, dryAt, wetAt, stationAt}
+use Rattle.station.specs.Questions.{Answers, seaLevelAt, pressureTests, PressureRule, tendencyTests, TendencyRule, windTests, WindRule, humidityTests, HumidityRule, dryAt, wetAt, stationAt}
+use Rattle.station.specs.Told.{Change}
 use Rattle.station.proofs.AnswerLaws.{passed, ruled}
 use Rattle.heard.proofs.StoreLaws.{heard-inside, never-foreign}
 use Rattle.watchfile.specs.Rules.{minuteRight, rank}

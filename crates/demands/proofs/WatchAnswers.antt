@@ -31,8 +31,8 @@ use Rattle.vapour.proofs.SaturationLaws.{near-test, near-by-test, near-one}
 use Rattle.vapour.proofs.DewLaws.{dew-test, dew-by-test}
 use Rattle.humidity.specs.Humidity.{vapourPressure}
 use Rattle.station.specs.Source.{heard}
-use Rattle.station.specs.Questions.{Answers}
-use Rattle.station.specs.Told.{TellsPressure, TellsTendency, TellsWind, TellsHumidity}
+use Rattle.station.specs.Questions.{Answers, Tells}
+use Rattle.station.specs.Questions as asked
 use Rattle.station.specs.declared.QuestionRefusal.the-variants.{MissingReading}
 use Rattle.station.specs.declared.PressureAnswer.{PressureAnswer}
 use Rattle.station.specs.declared.PressureAnswer.the-variants as pressure
@@ -122,11 +122,11 @@ abbrev pub missing : ℕ → ℕ → PressureAnswer
 missing channel minute = pressure.Refused (MissingReading channel (record { 0 = minute }))
 
 pub pressures :
-    TellsPressure (heard ship quiet) 100 (pressed (pos 10000))
-    × TellsPressure (heard ship quiet) 280 (pressed (pos 10010))
-    × TellsPressure (heard ship (at-100 ∷ others)) 280 (missing 0 280)
+    Tells asked.pressure (heard ship quiet) 100 (pressed (pos 10000))
+    × Tells asked.pressure (heard ship quiet) 280 (pressed (pos 10010))
+    × Tells asked.pressure (heard ship (at-100 ∷ others)) 280 (missing 0 280)
 unfolding Answers answer history received toWhole nearest rounded ofBits remembered every scaleFrom scale outside temperature height seaLevel
-pressures = ((refl, refl), (refl, refl), refl)
+pressures = (λ table tabled. (refl, refl), λ table tabled. (refl, refl), λ table tabled. refl)
 
 -- ---- tendency
 
@@ -134,14 +134,14 @@ abbrev pub changed : ℤ → ℕ → TendencyAnswer
 changed c n = tendency.Given (record { 0 = record { v = c } }) n
 
 pub tendencies :
-    TellsTendency (heard ship quiet) 280 (changed (pos 10) 179)
-    × TellsTendency (heard ship busier) 280 (changed (pos 10) 178)
-    × TellsTendency (heard ship falling) 280 (changed (negℤ (pos 10)) 179)
+    Tells asked.tendency (heard ship quiet) 280 (changed (pos 10) 179)
+    × Tells asked.tendency (heard ship busier) 280 (changed (pos 10) 178)
+    × Tells asked.tendency (heard ship falling) 280 (changed (negℤ (pos 10)) 179)
 unfolding Answers answer history received toWhole nearest rounded ofBits remembered absents every scaleFrom scale outside temperature height seaLevel
 tendencies = (
-  (refl, record { change = refl; absent = refl }),
-  (refl, record { change = refl; absent = refl }),
-  (refl, record { change = refl; absent = refl }),
+  λ table tabled. (refl, record { change = refl; absent = refl }),
+  λ table tabled. (refl, record { change = refl; absent = refl }),
+  λ table tabled. (refl, record { change = refl; absent = refl }),
 )
 
 -- ---- wind
@@ -149,9 +149,9 @@ tendencies = (
 abbrev pub blown : ℕ → ℕ → WindAnswer
 blown v d = wind.Given (record { 0 = v }) (record { 0 = d })
 
-pub winds : TellsWind (heard ship others) 100 (blown 48 60) × TellsWind (heard ship others) 280 (blown 51 210)
+pub winds : Tells asked.wind (heard ship others) 100 (blown 48 60) × Tells asked.wind (heard ship others) 280 (blown 51 210)
 unfolding Answers answer history received toWhole nearest ofBits remembered sines fold size sine cosine sum N M meets count between turned compass from withinLimits isNearest isWind
-winds = ((refl, tested 260 125 25 40 48 60 refl), (refl, tested 30 100 0 0 51 210 refl))
+winds = (λ table tabled. (refl, tested 260 125 25 40 48 60 refl), λ table tabled. (refl, tested 30 100 0 0 51 210 refl))
 
 -- ---- humidity
 
@@ -171,7 +171,7 @@ entry-is : (table : ℤ → ℕ) → IsTable table → (t : ℤ) (n : ℕ) → i
 entry-is table tabled t n i passed = near-one water t (table t) n (tabled t i) (near-by-test water t n passed)
 
 pub humidities :
-    TellsHumidity [] (heard ship quiet) 100 (moist 1366 2335 969 59 116) × TellsHumidity [] (heard ship quiet) 280 (moist 611 611 0 100 0)
+    Tells asked.humidity (heard ship quiet) 100 (moist 1366 2335 969 59 116) × Tells asked.humidity (heard ship quiet) 280 (moist 611 611 0 100 0)
 unfolding Answers answer history received toWhole nearest rounded ofBits remembered every scaleFrom scale outside stationPressure vapourPressure near-test dew-test
 humidities = (
   λ table tabled. (

@@ -12,6 +12,8 @@ use Rattle.settings.specs.Settings as settings
 use Rattle.settings.specs.declared.Settings.{Settings}
 use Rattle.settings.specs.declared.Checked.{Checked}
 use Rattle.cell.specs.Cells.{absent}
+use Rattle.cell.specs.declared.Recalled.{Recalled}
+use Rattle.cell.specs.declared.Recalled.the-variants.{Missing}
 use Rattle.store.specs.Block.{heardAs}
 use Rattle.store.specs.History.{nextOf, history}
 use Rattle.store.specs.declared.Hearing.{Hearing}
@@ -23,18 +25,16 @@ use Rattle.heard.specs.Feeds.{SameSettings, fedTo, Replaced, messageTests}
 use Rattle.watchfile.specs.Bytes.{AreBytes}
 use Rattle.watchfile.specs.Format.{DewRule, writeTests, recordRight}
 use Rattle.watchfile.specs.declared.Record.{Record}
-use Rattle.reader.specs.Read.{verdictAs, fileTests}
 use Rattle.reader.specs.declared.FileRead.{FileRead}
 use Rattle.reader.specs.declared.Verdict.the-variants.{Good}
 use Rattle.writer.specs.Write.{writtenAs}
 use Rattle.writer.specs.declared.Written.{Written}
 use Rattle.writer.specs.declared.Written.the-variants.{Done}
-use Rattle.listing.specs.Listing.{listedAs, listTests}
 use Rattle.listing.specs.declared.Listed.{Listed}
 use Rattle.desk.specs.Records.{pressureRecord, tendencyRecord, windRecord, humidityRecord}
 use Rattle.desk.specs.declared.Entry.{Entry}
 use Rattle.desk.specs.declared.Entry.the-variants as entry
-use Rattle.demands.specs.Working.{Opens, Hears, Asks, Working, Answers, ReadsFile, WritesFile, ListsFile, Enters}
+use Rattle.demands.specs.Working.{Opens, Hears, Recalls, Asks, Working, Replies, ReadsFile, WritesFile, ListsFile, Enters}
 
 -- ---- 1. "Any message, setting, question or file gets an answer or, exactly when its reason holds and no earlier test has refused, one
 -- of the numbered refusals, and the work always ends. Callers are never trusted to have checked." (That each function answers whatever
@@ -45,14 +45,10 @@ pub record Demand1 : Type 0 where
       → (n : ℕ) → (checkedAs c ≡ refused n) ↔ First (settings.tests g) n
   pub message : (g : Settings) (M : List (List ℕ)) (b : List ℕ) → Working g M b → (m : List ℕ) (h : Hearing) (b′ : List ℕ) → Hears b m h b′
       → (n : ℕ) → (heardAs h ≡ refused n) ↔ First (messageTests g M m) n
-  pub question : (q : Asked) (g : Settings) (M : List (List ℕ)) (m : ℕ) (x : Reply q) → Answers q g M m x
+  pub asked : (q : Asked) (g : Settings) (M : List (List ℕ)) (m : ℕ) (x : Reply q) → Replies q g M m x
       → (table : ℤ → ℕ) → IsTable table → (n : Numbered) → (question q .told x ≡ refused n) ↔ First (question q .tests [] table (heard g M) m) n
   pub write : (dew : ℕ → ℤ) → DewRule dew → (all : List Record) (count : ℕ) (before after : List ℕ) (w : Written) → WritesFile all count before w after
       → (n : Numbered) → (writtenAs w ≡ refused n) ↔ First (writeTests dew all count (length before)) n
-  pub file : (dew : ℕ → ℤ) → DewRule dew → (s : List ℕ) (x : FileRead) → ReadsFile s x
-      → (n : Numbered) → (verdictAs (x .verdict) ≡ refused n) ↔ First (fileTests dew s) n
-  pub listing : (dew : ℕ → ℤ) → DewRule dew → (s before after : List ℕ) (l : Listed) → ListsFile s before l after
-      → (n : Numbered) → (listedAs l ≡ refused n) ↔ First (listTests dew s (length before)) n
   -- Settings that no test refuses open a store, on any memory, and it goes on whatever it is sent.
   pub opens : (b : List ℕ) (g : Settings) (c : Checked) (b′ : List ℕ) → Opens b g c b′ → ((n : ℕ) → Holds (settings.tests g) n → ⊥) → Working g [] b′
   pub goes-on : (g : Settings) (M : List (List ℕ)) (b : List ℕ) → Working g M b → (m : List ℕ) → (h : Hearing) × (b′ : List ℕ) × Hears b m h b′
@@ -63,7 +59,7 @@ pub record Demand1 : Type 0 where
   pub refused-question : (q : Asked) (b : List ℕ) (m : ℕ) (x : Reply q) (b′ : List ℕ) (n : Numbered) → Asks q b m x b′ → question q .told x ≡ refused n → b′ ≡ b
   pub refused-write : (all : List Record) (count : ℕ) (before after : List ℕ) (w : Written) (n : Numbered)
       → WritesFile all count before w after → writtenAs w ≡ refused n → after ≡ before
-  pub refused-listing : (s before after : List ℕ) (l : Listed) (n : Numbered) → ListsFile s before l after → listedAs l ≡ refused n → after ≡ before
+
 
 -- ---- 2. "Pressure, tendency, true wind and humidity are exactly those that RD 52.04.651 defines, as document 01 fixes it, worked from
 -- the readings heard, and refused only for the listed reasons."
@@ -77,31 +73,40 @@ RecordOf wind m OutsideLimits r = ⊥
 RecordOf humidity m h r = r ≡ humidityRecord m h
 
 pub record Demand2 : Type 0 where
-  pub told : (q : Asked) (g : Settings) (M : List (List ℕ)) (m : ℕ) (x : Reply q) → Answers q g M m x → Tells q (heard g M) m x
+  pub told : (q : Asked) (g : Settings) (M : List (List ℕ)) (m : ℕ) (x : Reply q) → Replies q g M m x → Tells q (heard g M) m x
   -- Every figure makes a record that a watch file takes.
-  pub recorded : (q : Asked) (g : Settings) (M : List (List ℕ)) (m : ℕ) (x : Reply q) → Answers q g M m x → (e : Entry) → Enters q m x e
+  pub recorded : (q : Asked) (g : Settings) (M : List (List ℕ)) (m : ℕ) (x : Reply q) → Replies q g M m x → (e : Entry) → Enters q m x e
       → (f : question q .Figures) → question q .told x ≡ given f
       → (r : Record) × (e ≡ entry.Record r) × (RecordOf q m f r) × ((dew : ℕ → ℤ) → DewRule dew → recordRight dew 0 r ≡ true)
   -- "A good watch file read and written again has the same bytes,": in any buffer that has room for them
   pub file-again : (s : List ℕ) → AreBytes s → (x : FileRead) (count : ℕ) → ReadsFile s x → x .verdict ≡ Good count
       → (before after : List ℕ) (w : Written) → length s ≤ length before → WritesFile (x .records) count before w after
       → (w ≡ Done (length s)) × (take (length s) after ≡ s)
-  -- "and accepted records written and read again are the same."
-  pub records-again : (all : List Record) (count : ℕ) (before after : List ℕ) (size : ℕ) → WritesFile all count before (Done size) after
+  -- "and accepted records written and read again are the same." (There are 48 places, and no more are accepted.)
+  pub records-again : (all : List Record) (count : ℕ) (before after : List ℕ) (size : ℕ) → count ≤ length all → WritesFile all count before (Done size) after
       → (x : FileRead) → ReadsFile (take size after) x → (x .verdict ≡ Good count) × (take count (x .records) ≡ take count all)
 
 -- ---- 3. "Open two stores with the same settings and send each any messages, bad ones included."
+
+-- After the messages M a minute of a channel is missing, and the channel has accepted a later one.
+pub record Passed (g : Settings) (M : List (List ℕ)) (c j : ℕ) : Type 0 where
+  pub missing : heard g M .recall c j ≡ absent
+  pub later : j < nextOf (history (g .unit) c M)
 
 pub record Demand3 : Type 0 where
   -- "If the messages of the channels that feed an answer are alike and in the same order, that answer, its refusal and its count of
   -- missing minutes are alike,"
   pub alike : (q : Asked) (g h : Settings) → SameSettings g h → (M N : List (List ℕ)) (m : ℕ) → fedTo q M ≡ fedTo q N
-      → (x y : Reply q) → Answers q g M m x → Answers q h N m y → x ≡ y
+      → (x y : Reply q) → Replies q g M m x → Replies q h N m y → x ≡ y
   -- "and are what demand 2 gives for those messages alone."
-  pub alone : (q : Asked) (g : Settings) (M : List (List ℕ)) (m : ℕ) (x : Reply q) → Answers q g M m x → Tells q (heard g (fedTo q M)) m x
+  pub alone : (q : Asked) (g : Settings) (M : List (List ℕ)) (m : ℕ) (x : Reply q) → Replies q g M m x → Tells q (heard g (fedTo q M)) m x
   -- "Replacing fed values by other acceptable ones at minutes the answer doesn't read changes nothing either."
   pub replaced : (q : Asked) (g h : Settings) → SameSettings g h → (M N : List (List ℕ)) (m : ℕ) → Replaced (g .unit) (reads q m) M N
-      → (x y : Reply q) → Answers q g M m x → Answers q h N m y → x ≡ y
-  -- "A missing minute stays missing once its channel has accepted a later one.": whatever N is heard after M
-  pub missing-stays : (g : Settings) (M N : List (List ℕ)) (c j : ℕ) → heard g M .recall c j ≡ absent → j < nextOf (history (g .unit) c M)
-      → heard g (N ++ M) .recall c j ≡ absent
+      → (x y : Reply q) → Replies q g M m x → Replies q h N m y → x ≡ y
+  -- "A missing minute stays missing once its channel has accepted a later one.": whatever N is heard after M. So it is of the messages,
+  -- so a block recalls it, and no question that reads it is answered with figures.
+  pub missing-stays : (g : Settings) (M N : List (List ℕ)) (c j : ℕ) → Passed g M c j → heard g (N ++ M) .recall c j ≡ absent
+  pub recall-stays : (g : Settings) (M N : List (List ℕ)) (c j : ℕ) → Passed g M c j
+      → (b : List ℕ) → Working g (N ++ M) b → (x : Recalled) → Recalls b c j x → x ≡ Missing
+  pub answer-stays : (q : Asked) (g : Settings) (M N : List (List ℕ)) (c j m : ℕ) → Passed g M c j → reads q m c j ≡ true
+      → (x : Reply q) → Replies q g (N ++ M) m x → (n : Numbered) × (question q .told x ≡ refused n)

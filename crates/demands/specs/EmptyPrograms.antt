@@ -12,20 +12,14 @@ use Rattle.settings.specs.declared.Settings.{Settings}
 use Rattle.settings.specs.declared.Checked.{Checked}
 use Rattle.store.specs.Block.{heardAs}
 use Rattle.store.specs.declared.Hearing.{Hearing}
-use Rattle.wind.specs.declared.TrueWind.{TrueWind}
-use Rattle.humidity.specs.declared.HumidityFigures.{HumidityFigures}
-use Rattle.station.specs.Questions.{Change}
-use Rattle.station.specs.Told.{pressureAs, tendencyAs, windAs, humidityAs}
-use Rattle.station.specs.declared.PressureAnswer.{PressureAnswer}
-use Rattle.station.specs.declared.TendencyAnswer.{TendencyAnswer}
-use Rattle.station.specs.declared.WindAnswer.{WindAnswer}
-use Rattle.station.specs.declared.HumidityAnswer.{HumidityAnswer}
-use Rattle.station.proofs.«open».Reads as opening
-use Rattle.station.proofs.hear.Reads as hear
-use Rattle.station.proofs.pressure.Reads as pressure
-use Rattle.station.proofs.tendency.Reads as tendency
-use Rattle.station.proofs.wind.Reads as wind
-use Rattle.station.proofs.humidity.Reads as humidity
+use Rattle.station.specs.Told.{Change}
+use Rattle.station.specs.Questions.{Asked, pressure, tendency, wind, humidity, question, Reply}
+use Rattle.station.proofs.«open».Reads as to-open
+use Rattle.station.proofs.hear.Reads as to-hear
+use Rattle.station.proofs.pressure.Reads as for-pressure
+use Rattle.station.proofs.tendency.Reads as for-tendency
+use Rattle.station.proofs.wind.Reads as for-wind
+use Rattle.station.proofs.humidity.Reads as for-humidity
 
 -- ---- programs
 
@@ -34,23 +28,23 @@ use Rattle.station.proofs.humidity.Reads as humidity
 pub record Program : Type 0 where
   pub opens : List ℕ → Settings → Checked × List ℕ
   pub hears : List ℕ → List ℕ → Hearing × List ℕ
-  pub pressure : List ℕ → ℕ → PressureAnswer
-  pub tendency : List ℕ → ℕ → TendencyAnswer
-  pub wind : List ℕ → ℕ → WindAnswer
-  pub humidity : List ℕ → ℕ → HumidityAnswer
+  pub asks : (q : Asked) → List ℕ → ℕ → Reply q
 
 -- A contract as the check reads it (`Reads.Post`) holds of what is done with any arguments: the answer, and the parameters at exit.
 abbrev pub Allows : {L : Type 0} {A R S : L → Type 0} → ((κs : L) → A κs → R κs → S κs → Type 0) → ((κs : L) → A κs → R κs × S κs) → Type 0
 Allows {L} {A} {R} {S} Post done = (κs : L) (a : A κs) → Post κs a (done κs a .0) (done κs a .1)
 
--- The program meets the six contracts.
+-- The program meets the contract of a question, and all six contracts.
+abbrev pub MeetsAsked : Program → Asked → Type 0
+MeetsAsked p pressure = Allows for-pressure.Post (λ κs a. (p .asks pressure (now (a .0)) (a .1 .0), a))
+MeetsAsked p tendency = Allows for-tendency.Post (λ κs a. (p .asks tendency (now (a .0)) (a .1 .0), a))
+MeetsAsked p wind = Allows for-wind.Post (λ κs a. (p .asks wind (now (a .0)) (a .1 .0), a))
+MeetsAsked p humidity = Allows for-humidity.Post (λ κs a. (p .asks humidity (now (a .0)) (a .1 .0), a))
+
 pub record Meets (p : Program) : Type 0 where
-  pub opens : Allows opening.Post (λ κs a. let r = p .opens (now (a .0)) (a .1 .0) in (r .0, (at-last (a .0) (r .1), a .1)))
-  pub hears : Allows hear.Post (λ κs a. let r = p .hears (now (a .0)) (now (a .1 .0)) in (r .0, (at-last (a .0) (r .1), a .1)))
-  pub pressure : Allows pressure.Post (λ κs a. (p .pressure (now (a .0)) (a .1 .0), a))
-  pub tendency : Allows tendency.Post (λ κs a. (p .tendency (now (a .0)) (a .1 .0), a))
-  pub wind : Allows wind.Post (λ κs a. (p .wind (now (a .0)) (a .1 .0), a))
-  pub humidity : Allows humidity.Post (λ κs a. (p .humidity (now (a .0)) (a .1 .0), a))
+  pub opens : Allows to-open.Post (λ κs a. let r = p .opens (now (a .0)) (a .1 .0) in (r .0, (at-last (a .0) (r .1), a .1)))
+  pub hears : Allows to-hear.Post (λ κs a. let r = p .hears (now (a .0)) (now (a .1 .0)) in (r .0, (at-last (a .0) (r .1), a .1)))
+  pub asks : (q : Asked) → MeetsAsked p q
 
 -- ---- programs in use
 
@@ -77,25 +71,16 @@ openingIn p u = checkedAs (p .opens (u .memory) (u .settings) .0)
 abbrev pub hearingIn : Program → List ℕ → Use → Answer ℕ (Unit {0})
 hearingIn p m u = heardAs (p .hears (block p u) m .0)
 
-abbrev pub pressureIn : Program → Use → Answer Numbered ℤ
-pressureIn p u = pressureAs (p .pressure (block p u) (u .minute))
+abbrev pub answerIn : (q : Asked) → Program → Use → Answer Numbered (question q .Figures)
+answerIn q p u = question q .told (p .asks q (block p u) (u .minute))
 
-abbrev pub tendencyIn : Program → Use → Answer Numbered Change
-tendencyIn p u = tendencyAs (p .tendency (block p u) (u .minute))
-
--- its change alone
+-- the change of a tendency alone
 abbrev pub changeOf : Answer Numbered Change → Answer Numbered ℤ
 changeOf (refused n) = refused n
 changeOf (given t) = given (t .change)
 
 abbrev pub changeIn : Program → Use → Answer Numbered ℤ
-changeIn p u = changeOf (tendencyIn p u)
-
-abbrev pub windIn : Program → Use → Answer Numbered TrueWind
-windIn p u = windAs (p .wind (block p u) (u .minute))
-
-abbrev pub humidityIn : Program → Use → Answer Numbered HumidityFigures
-humidityIn p u = humidityAs (p .humidity (block p u) (u .minute))
+changeIn p u = changeOf (answerIn tendency p u)
 
 -- ---- the five
 
@@ -113,14 +98,14 @@ after u m = record { memory = u .memory; settings = u .settings; messages = m �
 
 -- "one that stores nothing": no message changes a pressure that it answers, whatever it says of the message and leaves in the block.
 abbrev pub StoresNothing : Program → Type 0
-StoresNothing p = (u : Use) (m : List ℕ) → pressureIn p (after u m) ≡ pressureIn p u
+StoresNothing p = (u : Use) (m : List ℕ) → answerIn pressure p (after u m) ≡ answerIn pressure p u
 
 -- "one that stores only the first message and merely says yes to the rest": after one that it says it heard, no other of that channel
 -- changes a pressure. (So it is too where it stores but the first of all.)
 abbrev pub StoresOnlyTheFirst : Program → Type 0
 StoresOnlyTheFirst p =
-    (u : Use) (m n : List ℕ) → channel m ≡ channel n → hearingIn p m u ≡ given tt → pressureIn p (after (after u m) n) ≡ pressureIn p (after u m)
+    (u : Use) (m n : List ℕ) → channel m ≡ channel n → hearingIn p m u ≡ given tt → answerIn pressure p (after (after u m) n) ≡ answerIn pressure p (after u m)
 
 -- "one that invents the absent count": it is made from settings, minute and change, whatever was heard.
 abbrev pub InventsTheCount : Program → Type 0
-InventsTheCount p = (made : Settings → ℕ → ℤ → ℕ) × ((u : Use) (t : Change) → tendencyIn p u ≡ given t → t .absent ≡ made (u .settings) (u .minute) (t .change))
+InventsTheCount p = (made : Settings → ℕ → ℤ → ℕ) × ((u : Use) (t : Change) → answerIn tendency p u ≡ given t → t .absent ≡ made (u .settings) (u .minute) (t .change))

@@ -7,7 +7,9 @@ use denote.Ref.{now}
 use Rattle.settings.specs.declared.Settings.{Settings}
 use Rattle.settings.specs.declared.Checked.{Checked}
 use Rattle.settings.specs.declared.Checked.the-variants.{Good}
+use Rattle.cell.specs.declared.Recalled.{Recalled}
 use Rattle.store.specs.declared.Hearing.{Hearing}
+use Rattle.store.proofs.recall.Reads as to-recall
 use Rattle.station.specs.Questions.{Asked, pressure, tendency, wind, humidity, Reply}
 use Rattle.station.proofs.«open».Reads as to-open
 use Rattle.station.proofs.hear.Reads as to-hear
@@ -42,6 +44,10 @@ Opens b g c b′ = Call to-open.Post (λ κs a r s. (now (a .0) ≡ b) × (a .1 
 abbrev pub Hears : List ℕ → List ℕ → Hearing → List ℕ → Type 0
 Hears b m h b′ = Call to-hear.Post (λ κs a r s. (now (a .0) ≡ b) × (now (a .1 .0) ≡ m) × (r ≡ h) × (s .0 .now ≡ b′))
 
+-- A block b was asked what it keeps of a channel's minute.
+abbrev pub Recalls : List ℕ → ℕ → ℕ → Recalled → Type 0
+Recalls b c j x = Call to-recall.Post (λ κs a r s. (now (a .0) ≡ b) × (a .1 .0 ≡ c) × (a .1 .1 .0 ≡ j) × (r ≡ x))
+
 -- A block b was asked a question at minute m.
 abbrev pub Asks : (q : Asked) → List ℕ → ℕ → Reply q → List ℕ → Type 0
 Asks pressure b m x b′ = Call for-pressure.Post (λ κs a r s. (now (a .0) ≡ b) × (a .1 .0 ≡ m) × (r ≡ x) × (now (s .0) ≡ b′))
@@ -55,7 +61,7 @@ Working g [] b = (before : List ℕ) × (Opens before g Good b)
 Working g (m ∷ M) b = (before : List ℕ) × (Working g M before) × ((h : Hearing) × (Hears before m h b))
 
 -- Such a store is asked a question at minute m, and answers x.
-pub record Answers (q : Asked) (g : Settings) (M : List (List ℕ)) (m : ℕ) (x : Reply q) : Type 0 where
+pub record Replies (q : Asked) (g : Settings) (M : List (List ℕ)) (m : ℕ) (x : Reply q) : Type 0 where
   pub block : List ℕ
   pub after : List ℕ
   pub working : Working g M block

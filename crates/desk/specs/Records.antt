@@ -4,7 +4,7 @@ use lib.IntN.{ℤ, natAbs}
 use Rattle.quantity.specs.declared.MetresPerSecond.{MetresPerSecond}
 use Rattle.quantity.specs.declared.Degrees.{Degrees}
 use Rattle.humidity.specs.declared.HumidityFigures.{HumidityFigures}
-use Rattle.station.specs.Questions.{Change}
+use Rattle.station.specs.Told.{Change}
 use Rattle.watchfile.specs.Format.{kept}
 use Rattle.watchfile.specs.declared.Record.{Record}
 use Rattle.watchfile.specs.declared.Body.the-variants.{Pressure, Tendency, Wind, Humidity}

@@ -6,7 +6,7 @@ use Rattle.number.specs.Refusal.{Numbered, Answer, refused, given}
 use Rattle.wind.specs.declared.TrueWind.{TrueWind}
 use Rattle.wind.specs.declared.TrueWind.the-variants.{Blows, OutsideLimits}
 use Rattle.humidity.specs.declared.HumidityFigures.{HumidityFigures}
-use Rattle.station.specs.Questions.{Change}
+use Rattle.station.specs.Told.{Change}
 use Rattle.told.specs.declared.Refusal.{Refusal}
 use Rattle.told.specs.declared.PressureTold.{PressureTold}
 use Rattle.told.specs.declared.TendencyTold.{TendencyTold}
