@@ -8,7 +8,7 @@ use lib.IntN.{ℤ}
 use lib.ListN.{length, take, drop, length-take}
 use lib.Seq.{take-append-seam}
 use Rattle.number.specs.Refusal.{Numbered, Answer, refused, given}
-use Rattle.watchfile.specs.Bytes.{AreBytes}
+use Rattle.bytes.specs.Bytes.{AreBytes}
 use Rattle.watchfile.specs.Format.{DewRule, reading, writing}
 use Rattle.watchfile.specs.declared.Record.{Record}
 use Rattle.watchfile.proofs.DewRules.{the-rule}

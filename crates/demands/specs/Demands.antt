@@ -22,7 +22,7 @@ use Rattle.vapour.specs.Vapour.{IsTable}
 use Rattle.station.specs.Source.{heard}
 use Rattle.station.specs.Questions.{Asked, pressure, tendency, wind, humidity, question, Reply, reads, Tells}
 use Rattle.heard.specs.Feeds.{SameSettings, fedTo, Replaced, messageTests}
-use Rattle.watchfile.specs.Bytes.{AreBytes}
+use Rattle.bytes.specs.Bytes.{AreBytes}
 use Rattle.watchfile.specs.Format.{DewRule, writeTests, recordRight}
 use Rattle.watchfile.specs.declared.Record.{Record}
 use Rattle.reader.specs.declared.FileRead.{FileRead}
