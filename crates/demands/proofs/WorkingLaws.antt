@@ -44,11 +44,23 @@ module _ (b m : List ℕ) (h : Hearing) (b′ : List ℕ) (w : Hears b m h b′)
 carried : {R : Type 0} (P : List ℕ → ℕ → R → Type 0) {b b′ : List ℕ} {m m′ : ℕ} {r r′ : R} → b ≡ b′ → m ≡ m′ → r ≡ r′ → P b m r → P b′ m′ r′
 carried P {b} {b′} {m} {m′} {r} {r′} e f h w = subst (P b′ m′) h (subst (λ (n : ℕ). P b′ n r) f (subst (λ (s : List ℕ). P s m r) e w))
 
+told-pressure : (b : List ℕ) (m : ℕ) (x : Reply pressure) (b′ : List ℕ) → Asks pressure b m x b′ → TellsOf pressure b m x
+told-pressure b m x b′ w = let which = w .5 in carried (TellsOf pressure) (which .0) (which .1) (which .2) (w .4 .0)
+
+told-tendency : (b : List ℕ) (m : ℕ) (x : Reply tendency) (b′ : List ℕ) → Asks tendency b m x b′ → TellsOf tendency b m x
+told-tendency b m x b′ w = let which = w .5 in carried (TellsOf tendency) (which .0) (which .1) (which .2) (w .4 .0)
+
+told-wind : (b : List ℕ) (m : ℕ) (x : Reply wind) (b′ : List ℕ) → Asks wind b m x b′ → TellsOf wind b m x
+told-wind b m x b′ w = let which = w .5 in carried (TellsOf wind) (which .0) (which .1) (which .2) (w .4 .0)
+
+told-humidity : (b : List ℕ) (m : ℕ) (x : Reply humidity) (b′ : List ℕ) → Asks humidity b m x b′ → TellsOf humidity b m x
+told-humidity b m x b′ w = let which = w .5 in carried (TellsOf humidity) (which .0) (which .1) (which .2) (w .4 .0)
+
 pub asks-told : (q : Asked) (b : List ℕ) (m : ℕ) (x : Reply q) (b′ : List ℕ) → Asks q b m x b′ → TellsOf q b m x
-asks-told pressure b m x b′ w = let which = w .5 in carried (TellsOf pressure) (which .0) (which .1) (which .2) (w .4 .0)
-asks-told tendency b m x b′ w = let which = w .5 in carried (TellsOf tendency) (which .0) (which .1) (which .2) (w .4 .0)
-asks-told wind b m x b′ w = let which = w .5 in carried (TellsOf wind) (which .0) (which .1) (which .2) (w .4 .0)
-asks-told humidity b m x b′ w = let which = w .5 in carried (TellsOf humidity) (which .0) (which .1) (which .2) (w .4 .0)
+asks-told pressure = told-pressure
+asks-told tendency = told-tendency
+asks-told wind = told-wind
+asks-told humidity = told-humidity
 
 pub asks-leaves : (q : Asked) (b : List ℕ) (m : ℕ) (x : Reply q) (b′ : List ℕ) → Asks q b m x b′ → b′ ≡ b
 asks-leaves pressure b m x b′ w = let which = w .5 in sym (which .3) ∙ w .4 .1 ∙ which .0
