@@ -1,9 +1,9 @@
 -- Pressure and tendency: what a reading's work comes to, and what two minutes' pressures come to, test by test. Assumes nothing.
-use mathlib.Core.Path.{_≡_, refl, sym, ap, _∙_, subst}
-use mathlib.Core.Bool.{Bool, true, false, not, _||_, cond}
+use mathlib.Core.Path.{_≡_, refl, ap, _∙_}
+use mathlib.Core.Bool.{Bool, true, false, not, cond}
 use mathlib.Core.List.{List, [], _∷_}
 use mathlib.Core.Logic.{inl, inr}
-use Prim.Native.Nat.{ℕ, _-_, _≤_}
+use Prim.Native.Nat.{ℕ, _≤_}
 use native.Mathlib.Omega.{arith}
 use types.Run.{OneOf}
 use denote.Enum.Declared.{tagOf}
@@ -22,8 +22,7 @@ use Rattle.pressure.specs.declared.WorkedPressure.{WorkedPressure}
 use Rattle.pressure.specs.declared.WorkedPressure.the-variants.{Given, OutsideLimits, OutsideCertificate}
 use Rattle.pressure.proofs.SizeLaws.{sea-level-stored}
 use Rattle.station.specs.Source.{Source, held, inCelsius, readingAt}
-use Rattle.station.specs.Questions.{Answers, missingAt, outsideAt, seaLevelAt, PressureRule, tendencyTests, TendencyRule}
-use Rattle.station.specs.Told.{Change}
+use Rattle.station.specs.Questions.{Answers, missingAt, outsideAt, seaLevelAt, PressureRule}
 use Rattle.station.specs.Parts.{TellsAt}
 use Rattle.station.specs.declared.AtMinute.{AtMinute}
 use Rattle.station.specs.declared.AtMinute.the-variants.{NotKept, Outside, SeaLevel}

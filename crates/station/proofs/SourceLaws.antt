@@ -1,14 +1,12 @@
 -- An answer rests on nothing but what its question reads: where two sources agree on that, what the one allows the other allows.
 -- Test by test, and figure by figure. Assumes nothing.
-use mathlib.Core.Path.{_≡_, refl, sym, ap, _∙_}
-use mathlib.Core.Bool.{Bool, true, false, not, _&&_, _||_, cond}
-use mathlib.Core.List.{List, [], _∷_, _++_}
+use mathlib.Core.Path.{_≡_, refl, ap, _∙_}
+use mathlib.Core.Bool.{Bool, true, false, not, _||_}
+use mathlib.Core.List.{[], _∷_}
 use Prim.Native.Nat.{ℕ, _-_}
-use native.Mathlib.Omega.{arith}
 use lib.Dec.{eqb}
 use lib.IntN.{ℤ, _-ℤ_}
 use borrow.Author.Tests.{eq-eqb}
-use Rattle.number.specs.Refusal.{Numbered, Test, Answer, refused, given, answer}
 use Rattle.quantity.specs.Limits.{threeHours}
 use Rattle.quantity.specs.declared.BarometerUnit.{BarometerUnit}
 use Rattle.cell.specs.Cells.{Recall}

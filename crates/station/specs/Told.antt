@@ -1,6 +1,5 @@
 -- Document 01's number and values of each case of an answer, and the number of a block that is no store.
-use mathlib.Core.Path.{_≡_}
-use mathlib.Core.List.{List, [], _∷_}
+use mathlib.Core.List.{[], _∷_}
 use Prim.Native.Nat.{ℕ}
 use lib.IntN.{ℤ}
 use Rattle.number.specs.Refusal.{Numbered, numbered, Answer, refused, given}

@@ -1,7 +1,7 @@
 -- `humidity` meets its contract: the store, the minute, three readings in turn, the certificate's test, then those of the
 -- psychrometer's work. Assumes nothing.
 use mathlib.Core.Path.{_≡_, refl, sym, ap, subst, _∙_}
-use mathlib.Core.Bool.{false, not}
+use mathlib.Core.Bool.{not}
 use mathlib.Core.List.{List, [], _∷_}
 use Prim.Native.Nat.{ℕ}
 use denote.Ref.{now}
