@@ -1,13 +1,14 @@
 -- Demand 3. What a channel accepted of all messages is what it accepts of those that feed an answer; so two message lists whose fed
 -- messages are the same give the same answer, and so do those messages alone. Assumes nothing.
 use mathlib.Core.Path.{_≡_, refl, sym, ap, _∙_}
-use mathlib.Core.Bool.{Bool, true, false, _&&_, _||_, cond}
+use mathlib.Core.Bool.{Bool, true, false, _||_, cond}
 use mathlib.Core.List.{List, [], _∷_}
 use Prim.Native.Nat.{ℕ}
 use native.Mathlib.Omega.{arith}
 use lib.Dec.{eqb}
 use borrow.Author.Tests.{eqb-true}
 use Rattle.number.proofs.Sizes.{and-true}
+use Rattle.quantity.specs.Limits.{minutesBetween}
 use Rattle.quantity.specs.declared.BarometerUnit.{BarometerUnit}
 use Rattle.message.specs.Receive.{Entry}
 use Rattle.settings.specs.declared.Settings.{Settings}
@@ -70,13 +71,13 @@ module _ (g : Settings) (M N : List (List ℕ)) where
   kept m c e = ap (λ (H : List Entry). remembered H m) e
 
   missing : (m : ℕ) → history (g .unit) 0 M ≡ history (g .unit) 0 N → heard g M .missing m ≡ heard g N .missing m
-  missing m e = ap (λ (H : List Entry). absents (λ j. isPresent (remembered H j)) m 179) e
+  missing m e = ap (λ (H : List Entry). absents (λ j. isPresent (remembered H j)) m minutesBetween) e
 
   -- Message lists whose fed messages are the same give the same answer.
   pub same-fed : (q : Asked) (m : ℕ) → fedTo q M ≡ fedTo q N → (r : Reply q) → Tells q (heard g M) m r → Tells q (heard g N) m r
   same-fed q m e =
       let same : (c : ℕ) → isIn (question q .channels) c ≡ true → history (g .unit) c M ≡ history (g .unit) c N =
-          λ c i. same-history (question q .channels) c i (g .unit) M N e in
+      λ c i. same-history (question q .channels) c i (g .unit) M N e in
       agree-tells q (heard g M) (heard g N) m
       (record {
         barometer = itself _;

@@ -3,3 +3,4 @@ pub mod FedLaws
 pub mod ReplacedLaws
 pub mod RefusalsInOrder
 pub mod SettingsAlike
+pub mod NoStoreLaws

@@ -1,32 +1,25 @@
 -- Demand 1 for questions and messages: refusal n is given exactly when its reason holds and no test before it does, with reasons by
 -- the messages heard. The one law of refusals at each list. Assumes nothing.
-use mathlib.Core.Path.{_≡_, refl, sym, ap, subst, _∙_}
-use mathlib.Core.Bool.{Bool, not, cond}
-use mathlib.Core.List.{List, [], _∷_, _++_}
+use mathlib.Core.Path.{_≡_, refl, sym, ap, _∙_}
+use mathlib.Core.List.{List}
 use mathlib.Core.Logic.{_↔_}
 use Prim.Native.Nat.{ℕ, _<_}
 use native.Mathlib.Omega.{arith}
-use lib.Dec.{leb, lit<}
-use lib.ListN.{length}
-use borrow.Author.Tests.{eq-eqb}
+use lib.Dec.{lit<}
 use Rattle.number.specs.Refusal.{Numbered, Test, Answer, refused, given, answer, Holds, NoneBelow, First}
 use Rattle.number.proofs.RefusalLaws.{refused-then, then-refused, given-then, then-given, in-number-order}
 use Rattle.wire.specs.Bytes.{minute}
 use Rattle.wire.specs.Decode.{message}
-use Rattle.message.specs.Receive.{Entry, entry, tests}
+use Rattle.message.specs.Receive.{entry}
 use Rattle.wire.specs.declared.Message.{Message}
 use Rattle.wire.specs.declared.Message.the-variants.{Barometer, Wheelhouse, ApparentWind, ShipMotion, DryBulb, WetBulb}
 use Rattle.quantity.specs.declared.BarometerUnit.{BarometerUnit}
 use Rattle.settings.specs.Settings.{checked}
 use Rattle.settings.specs.declared.Settings.{Settings}
-use Rattle.window.specs.Layout.{WINDOW}
-use Rattle.window.specs.Window.{takes, next}
 use Rattle.cell.specs.Cells.{CHANNELS}
-use Rattle.block.specs.Words.{unitOf, windowOf}
-use Rattle.store.specs.Block.{isLater, hearing, hearTests, entryOfBytes}
-use Rattle.store.specs.History.{nextOf, history, store-of}
-use Rattle.block.proofs.BlockLaws.{window-long}
-use Rattle.store.proofs.HistoryLaws.{store-remembers}
+use Rattle.store.specs.Block.{hearing}
+use Rattle.store.specs.History.{store-of}
+use Rattle.store.proofs.HistoryLaws.{later-is, store-remembers, open-hears}
 use Rattle.station.specs.Questions.{Answers}
 use Rattle.heard.specs.Feeds.{wouldKeep, messageTests}
 
@@ -73,28 +66,14 @@ entry-minute u t (ShipMotion x) = refl
 entry-minute u t (DryBulb x) = refl
 entry-minute u t (WetBulb x) = refl
 
-takes-is : (w : List ℕ) (t : ℕ) → length w ≡ WINDOW → takes w t ≡ leb (next w) t
-unfolding takes
-takes-is w t e = rw (eq-eqb (length w) WINDOW e)
-
 module _ (g : Settings) (good : checked g ≡ given tt) (M : List (List ℕ)) (m : List ℕ) where
-  block : List ℕ
-  block = store-of g M
-
-  later-is : (e : Entry) → e .channel < CHANNELS → isLater block e ≡ leb (nextOf (history (g .unit) (e .channel) M)) (e .minute)
-  unfolding block
-  later-is e l =
-      let r = store-remembers g good M in
-      takes-is (windowOf (e .channel) block) (e .minute) (window-long block (e .channel) (r .long) l)
-      ∙ ap (λ (n : ℕ). leb n (e .minute)) (r .newest (e .channel) l)
-
   -- The store tests a message by what was heard before.
   pub message-by-messages : hearing (store-of g M) m ≡ answer (messageTests g M m) (wouldKeep g m)
-  unfolding hearing block
   message-by-messages =
       let e = wouldKeep g m in
+      let r = store-remembers g good M in
       let low = entry-low (g .unit) (minute m) (message m) in
-      rw (store-remembers g good M .unit, later-is e low, entry-minute (g .unit) (minute m) (message m))
+      open-hears g good M m ∙ rw (r .unit, later-is (store-of g M) (g .unit) M r e low, entry-minute (g .unit) (minute m) (message m))
 
   pub message-refused-exactly : (n : ℕ) → (hearing (store-of g M) m ≡ refused n) ↔ (Holds (messageTests g M m) n × NoneBelow (messageTests g M m) n)
   message-refused-exactly n =

@@ -5,11 +5,11 @@ use mathlib.Core.Bool.{Bool, true, false, _&&_, cond}
 use mathlib.Core.List.{List, [], _∷_}
 use mathlib.Core.Logic.{_⊎_, inl, inr}
 use Prim.Native.Nat.{ℕ, _+_}
-use native.Mathlib.Omega.{arith}
 use lib.Dec.{eqb, leb}
 use borrow.Author.Tests.{eqb-true}
 use Rattle.number.specs.Refusal.{Answer, refused, given}
 use Rattle.number.proofs.Sizes.{and-true}
+use Rattle.quantity.specs.Limits.{minutesBetween}
 use Rattle.quantity.specs.declared.BarometerUnit.{BarometerUnit}
 use Rattle.message.specs.Receive.{Entry, received}
 use Rattle.settings.specs.declared.Settings.{Settings}
@@ -117,5 +117,5 @@ same-replaced g M N q m w =
       barometer = itself _;
       psychrometer = refl;
       kept = λ c j r. value-stays (reads q m) c (g .unit) M N w j r;
-      missing = λ i. absents-alike _ _ m 179 (λ j a b. present-stays (reads q m) 0 (g .unit) M N w j);
+      missing = λ i. absents-alike _ _ m minutesBetween (λ j a b. present-stays (reads q m) 0 (g .unit) M N w j);
     })

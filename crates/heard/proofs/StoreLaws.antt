@@ -2,43 +2,37 @@
 -- question as the messages heard do. By what the block remembers of them. Assumes nothing.
 use mathlib.Core.Path.{_≡_, refl, sym, ap, subst, _∙_}
 use mathlib.Core.Bool.{Bool, true, false, not, _&&_, _||_, cond}
-use mathlib.Core.List.{List, [], _∷_, _++_}
-use Prim.Native.Nat.{ℕ, _+_, _-_, _<_, min}
+use mathlib.Core.List.{List, [], _∷_}
+use Prim.Native.Nat.{ℕ, _+_, _<_, min}
 use native.Mathlib.Omega.{arith}
 use lib.Dec.{eqb, ltb, lit<}
-use lib.IntN.{ℤ, pos}
-use lib.ListN.{getD, take, length}
+use lib.ListN.{getD, take}
 use lib.Seq.{getD-take}
 use borrow.Author.Tests.{ltb-true, eqb-true, not-false}
-use Rattle.number.specs.Refusal.{Numbered, Test, answer, given}
+use Rattle.number.specs.Refusal.{given}
 use Rattle.number.proofs.Sizes.{and-true}
 use Rattle.quantity.specs.Limits.{inside, recordedPressure}
 use Rattle.quantity.specs.declared.BarometerUnit.{BarometerUnit}
-use Rattle.quantity.specs.declared.BarometerUnit.the-variants.{Hectopascals, Millimetres}
 use Rattle.settings.specs.Settings.{checked, othersHold, nowhere}
 use Rattle.settings.specs.Settings as settings
 use Rattle.settings.specs.declared.Settings.{Settings}
-use Rattle.settings.specs.declared.Point.{Point}
-use Rattle.block.specs.Layout.{SETTINGS, WORDS, POINTS}
-use Rattle.cell.specs.Cells.{CHANNELS}
-use Rattle.cell.specs.Cells.{unbiased, limitsOf}
-use Rattle.cell.specs.Cells.{Recall}
+use Rattle.block.specs.Layout.{SETTINGS, POINTS}
+use Rattle.cell.specs.Cells.{CHANNELS, unbiased, limitsOf, Recall}
 use Rattle.block.specs.Words.{opened, unitOf, settingOf, pointIn, pointOf}
-use Rattle.store.specs.Block.{recallOf, absentOf}
-use Rattle.store.specs.History.{history, remembered, isPresent, Remembers, store-of}
-use Rattle.store.proofs.HistoryLaws.{store-remembers}
+use Rattle.store.specs.History.{isPresent, store-of}
+use Rattle.store.proofs.HistoryLaws.{store-remembers, store-is-open}
 use Rattle.store.proofs.StoreTheorems.{settings-stay-heard, absent-count}
 use Rattle.block.proofs.SettingsLaws.{settings-back, others}
 use Rattle.pressure.specs.Pressure.{Barometer, barometerIn, barometerOf}
 use Rattle.pressure.proofs.OrderLaws.{never}
 use Rattle.pressure.proofs.PressureTheorems.{Alike, opened-alike, station-recorded}
-use Rattle.station.specs.Source.{Source, heard, held, first}
-use Rattle.station.specs.Questions.{Asked, question, Reply, isIn, Tells, TellsOf, tooLate, missingAt, outsideAt, stationAt, HumidityRule, humidityTests, foreign}
+use Rattle.station.specs.Source.{heard, held, readingAt}
+use Rattle.station.specs.Questions.{Asked, question, Reply, isIn, AnsweredBy, Tells, TellsOf, noStore, tooLate, missingAt, outsideAt, stationAt, HumidityRule, humidityTests, foreign}
 use Rattle.station.specs.Questions as asked
 use Rattle.station.specs.Told.{humidityAs}
 use Rattle.station.specs.declared.HumidityAnswer.{HumidityAnswer}
 use Rattle.station.proofs.AnswerLaws.{carry, leave-out, lets-pass}
-use Rattle.station.proofs.KeptLaws.{first-inside}
+use Rattle.station.proofs.KeptLaws.{numberOf, first-inside}
 use Rattle.station.proofs.SourceLaws.{Agree, agree-tells, station-same}
 
 -- every question is fed by channels that there are
@@ -85,7 +79,7 @@ module _ (s t : List ℕ) (same : take SETTINGS s ≡ take SETTINGS t) where
   barometers : Alike (barometerOf s) (barometerOf t)
   barometers =
       record {
-        unit = ap (λ (n : ℕ). cond (eqb n 0) Hectopascals Millimetres) (word 0 (lit< tt));
+        unit = ap (λ (n : ℕ). unitOf (n ∷ [])) (word 0 (lit< tt));
         height = setting 1 (lit< tt);
         difference = setting 2 (lit< tt);
         coefficient = setting 3 (lit< tt);
@@ -124,13 +118,14 @@ module _ (g : Settings) (good : checked g ≡ given tt) where
     missing-is : (m : ℕ) → held (store-of g M) .missing m ≡ heard g M .missing m
     missing-is m = absent-count (store-of g M) (g .unit) M 0 m (store-remembers g good M) (lit< tt)
 
-    -- what was heard lies within its channel's limits
-    pub heard-inside : (m c : ℕ) → c < CHANNELS → isPresent (heard g M .recall c m) ≡ true → inside (limitsOf (g .unit) c) (first (heard g M .recall c m)) ≡ true
+    -- what was heard lies within its channel's limits, in its channel's unit
+    pub heard-inside : (m c : ℕ) → c < CHANNELS → isPresent (heard g M .recall c m) ≡ true
+        → inside (limitsOf (g .unit) c) (numberOf (g .unit) c (heard g M .recall c m)) ≡ true
     heard-inside m c l there =
         let block = store-of g M in
         let is = kept-is m c l in
-        ap (λ (u : BarometerUnit). inside (limitsOf u c) (first (heard g M .recall c m))) (sym (barometer-is .unit))
-        ∙ ap (λ (x : Recall). inside (limitsOf (unitOf block) c) (first x)) (sym is)
+        ap (λ (u : BarometerUnit). inside (limitsOf u c) (numberOf u c (heard g M .recall c m))) (sym (barometer-is .unit))
+        ∙ ap (λ (x : Recall). inside (limitsOf (unitOf block) c) (numberOf (unitOf block) c x)) (sym is)
         ∙ first-inside block c m l (ap isPresent is ∙ there)
 
     -- 7 is no answer of such a store
@@ -144,7 +139,7 @@ module _ (g : Settings) (good : checked g ≡ given tt) where
         let a = g .psychrometer .0 .v in
         let three = inside settings.height h && inside settings.difference d && inside settings.coefficient k in
         let inside-a : inside settings.psychrometer a ≡ true = and-true three (inside settings.psychrometer a) (others g good) .1 in
-        rw (station-recorded g good (first (heard g M .recall 0 m)) (heard-inside m 0 (lit< tt) there), inside-a)
+        rw (station-recorded g good (readingAt (heard g M) m) (heard-inside m 0 (lit< tt) there), inside-a)
 
     -- ---- the block answers as the messages heard do
 
@@ -158,24 +153,36 @@ module _ (g : Settings) (good : checked g ≡ given tt) where
             missing = λ i. missing-is m;
           }
 
-      -- the test that document 01 does not have never refuses
-      without-foreign : (r : HumidityAnswer) → TellsOf asked.humidity (store-of g M) m r → Tells asked.humidity (held (store-of g M)) m r
+      -- it is a store, so the first test does not refuse
+      of-store : (q : Asked) (r : Reply q) → TellsOf q (store-of g M) m r
+          → AnsweredBy q [] (question q .foreign (held (store-of g M)) m) (held (store-of g M)) m r
+      of-store q r w table tabled =
+          let Rule = question q .Rule (held (store-of g M)) m in
+          carry (noStore (store-of g M) ∷ _) _ Rule Rule (question q .told r)
+          (leave-out [] _ (noStore (store-of g M)) (λ e. ap not (store-is-open g good M)))
+          (λ x h. h)
+          (w table tabled)
+
+      -- the test that document 01 does not have among its own never refuses
+      without-foreign : (r : HumidityAnswer) → AnsweredBy asked.humidity [] (foreign (held (store-of g M)) m) (held (store-of g M)) m r
+          → Tells asked.humidity (held (store-of g M)) m r
       without-foreign r w table tabled =
           let S = held (store-of g M) in
           let same : not (inside recordedPressure (stationAt S m) && inside settings.psychrometer (S .psychrometer))
-              ≡ not (inside recordedPressure (stationAt (heard g M) m) && inside settings.psychrometer (g .psychrometer .0 .v)) =
-              rw (station-same S (heard g M) barometer-is m (kept-is m 0 (lit< tt)), psychrometer-is) in
+          ≡ not (inside recordedPressure (stationAt (heard g M) m) && inside settings.psychrometer (g .psychrometer .0 .v)) =
+          rw (station-same S (heard g M) barometer-is m (kept-is m 0 (lit< tt)), psychrometer-is) in
           carry (humidityTests (foreign S m) table S m) (humidityTests [] table S m) (HumidityRule S m) (HumidityRule S m) (humidityAs r)
           (leave-out (tooLate m ∷ missingAt S m 0 ∷ missingAt S m 4 ∷ missingAt S m 5 ∷ outsideAt S m ∷ []) _ _
           (λ e. same ∙ never-foreign m (ap isPresent (sym (kept-is m 0 (lit< tt))) ∙ not-false _ (lets-pass (missingAt S m 0) _ (lets-pass (tooLate m) _ e .1) .0))))
           (λ h x. x)
           (w table tabled)
 
-      as-told : (q : Asked) (r : Reply q) → TellsOf q (store-of g M) m r → Tells q (held (store-of g M)) m r
+      as-told : (q : Asked) (r : Reply q) → AnsweredBy q [] (question q .foreign (held (store-of g M)) m) (held (store-of g M)) m r
+          → Tells q (held (store-of g M)) m r
       as-told asked.pressure r w = w
       as-told asked.tendency r w = w
       as-told asked.wind r w = w
       as-told asked.humidity r w = without-foreign r w
 
       pub by-messages : (q : Asked) (r : Reply q) → TellsOf q (store-of g M) m r → Tells q (heard g M) m r
-      by-messages q r w = agree-tells q (held (store-of g M)) (heard g M) m (agrees q) r (as-told q r w)
+      by-messages q r w = agree-tells q (held (store-of g M)) (heard g M) m (agrees q) r (as-told q r (of-store q r w))

@@ -1,4 +1,5 @@
--- What it means for an answer that settings and messages are alike, and the reasons by which a message is refused.
+-- What it means for an answer that settings and messages are alike, the reasons by which a message is refused, and memory that is no
+-- store.
 use mathlib.Core.Path.{_≡_}
 use mathlib.Core.Bool.{Bool, false, not, _||_, cond}
 use mathlib.Core.List.{List, [], _∷_, _++_}
@@ -12,6 +13,8 @@ use Rattle.wire.specs.Decode.{message}
 use Rattle.message.specs.Receive.{Entry, entry, received, tests}
 use Rattle.settings.specs.Settings.{pointAt}
 use Rattle.settings.specs.declared.Settings.{Settings}
+use Rattle.block.specs.Layout.{WORDS}
+use Rattle.block.specs.Words.{listed}
 use Rattle.store.specs.History.{nextOf, history, belongs}
 use Rattle.station.specs.Questions.{Asked, question}
 
@@ -73,3 +76,9 @@ wouldKeep g m = entry (g .unit) (minute m) (message m)
 abbrev pub messageTests : Settings → List (List ℕ) → List ℕ → List (Test ℕ)
 messageTests g M m =
     tests (g .unit) m ++ (record { refusal = 8; holds = not (leb (nextOf (history (g .unit) (wouldKeep g m .channel) M)) (minute m)) } ∷ [])
+
+-- ---- "a refused opening gives no store"
+
+-- Memory of zeros, as long as a store, which no opening made.
+abbrev pub zeros : List ℕ
+zeros = listed (λ i. 0) 0 WORDS

@@ -24,6 +24,23 @@ pub data Figure : Type 0 where
   hPa mmHg °C m/s kn deg : ℤ → Figure
   none : Figure
 
+-- A figure by its unit: what its number comes to in each, and what stands where there is none.
+abbrev pub byUnit : {A : Type 0} → (inHPa inMmHg in°C inM/s inKn inDeg : ℤ → A) → A → Figure → A
+byUnit inHPa inMmHg in°C inM/s inKn inDeg other (hPa z) = inHPa z
+byUnit inHPa inMmHg in°C inM/s inKn inDeg other (mmHg z) = inMmHg z
+byUnit inHPa inMmHg in°C inM/s inKn inDeg other (°C z) = in°C z
+byUnit inHPa inMmHg in°C inM/s inKn inDeg other (m/s z) = inM/s z
+byUnit inHPa inMmHg in°C inM/s inKn inDeg other (kn z) = inKn z
+byUnit inHPa inMmHg in°C inM/s inKn inDeg other (deg z) = inDeg z
+byUnit inHPa inMmHg in°C inM/s inKn inDeg other none = other
+
+-- Of the units that it could have, a formula takes one: in that the number is itself, in any other it is 0.
+abbrev pub itself : ℤ → ℤ
+itself z = z
+
+abbrev pub nought : ℤ → ℤ
+nought z = pos 0
+
 -- What is kept of a message.
 pub record Entry : Type 0 where
   pub channel : ℕ

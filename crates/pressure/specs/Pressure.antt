@@ -11,7 +11,7 @@ use Rattle.quantity.specs.Limits.{inside, pressureLimits, wheelhouse}
 use Rattle.quantity.specs.Convert.{inHectopascals}
 use Rattle.quantity.specs.declared.BarometerUnit.{BarometerUnit}
 use Rattle.quantity.specs.declared.BarometerUnit.the-variants.{Hectopascals, Millimetres}
-use Rattle.message.specs.Receive.{Figure, hPa, mmHg, °C, m/s, kn, deg, none}
+use Rattle.message.specs.Receive.{Figure, hPa, mmHg, byUnit, itself, nought}
 use Rattle.settings.specs.Settings.{every, pointAt, rises}
 use Rattle.settings.specs.declared.Settings.{Settings}
 use Rattle.settings.specs.declared.Point.{Point}
@@ -62,26 +62,19 @@ abbrev pub readingAs : BarometerReading → Figure
 readingAs (reading.Hectopascals p) = hPa (p .0 .v)
 readingAs (reading.Millimetres p) = mmHg (p .0 .v)
 
--- A figure by its unit: hPa, mm Hg, or another.
-abbrev pub byUnit : {A : Type 0} → (ℤ → A) → (ℤ → A) → A → Figure → A
-byUnit inHPa inMmHg other (hPa z) = inHPa z
-byUnit inHPa inMmHg other (mmHg z) = inMmHg z
-byUnit inHPa inMmHg other (°C z) = other
-byUnit inHPa inMmHg other (m/s z) = other
-byUnit inHPa inMmHg other (kn z) = other
-byUnit inHPa inMmHg other (deg z) = other
-byUnit inHPa inMmHg other none = other
-
 -- Whether a figure is a pressure in a barometer's unit.
+abbrev no : ℤ → Bool
+no z = false
+
 unfoldable pub inUnit : BarometerUnit → Figure → Bool
-inUnit Hectopascals f = byUnit (λ z. true) (λ z. false) false f
-inUnit Millimetres f = byUnit (λ z. false) (λ z. true) false f
+inUnit Hectopascals f = byUnit (λ z. true) no no no no no false f
+inUnit Millimetres f = byUnit no (λ z. true) no no no no false f
 
 -- Its tenths. Of any other figure no pressure is worked: "millimetres of mercury and hectopascals, are kept apart until a
 -- formula joins them".
 unfoldable pub tenthsIn : BarometerUnit → Figure → ℤ
-tenthsIn Hectopascals f = byUnit (λ z. z) (λ z. pos 0) (pos 0) f
-tenthsIn Millimetres f = byUnit (λ z. pos 0) (λ z. z) (pos 0) f
+tenthsIn Hectopascals f = byUnit itself nought nought nought nought nought (pos 0) f
+tenthsIn Millimetres f = byUnit nought itself nought nought nought nought (pos 0) f
 
 -- ---- the three corrections
 

@@ -1,27 +1,21 @@
 -- What the parts of a question come to in the whole: each law says, of a list of tests, which of them refuses. By whether each
 -- test holds. Assumes nothing.
 use mathlib.Core.Path.{_≡_, refl, sym, ap, _∙_}
-use mathlib.Core.Bool.{Bool, true, false, cond}
+use mathlib.Core.Bool.{Bool, true, false, not, cond}
 use mathlib.Core.List.{List, [], _∷_, _++_}
 use Prim.Native.Nat.{ℕ}
 use native.Mathlib.Omega.{arith}
-use lib.Dec.{ltb, leb}
-use borrow.Author.Tests.{lt-ltb, le-ltb, leb-true, leb-false}
+use lib.Dec.{leb}
+use borrow.Author.Tests.{lt-ltb, le-ltb, leb-true, leb-false, not-true, not-false}
 use Rattle.number.specs.Refusal.{Numbered, Test, Answer, refused, given, answer}
 use Rattle.quantity.specs.Limits.{lastMinute}
-use Rattle.station.specs.Questions.{Answers}
+use Rattle.block.specs.Words.{isStore}
+use Rattle.station.specs.Questions.{Answers, noStore, tooLate}
 
 -- a refusal's number, 0 for what is given: two answers of different numbers are different
 unfoldable pub code : Answer Numbered (Unit {0}) → ℕ
 code (refused r) = r .number
 code (given a) = 0
-
--- 5
-pub late : (m : ℕ) (b : Bool) → b ≡ leb m lastMinute → b ≡ false → ltb lastMinute m ≡ true
-late m b e f = lt-ltb lastMinute m (leb-false m lastMinute (sym e ∙ f))
-
-pub timely : (m : ℕ) (b : Bool) → b ≡ leb m lastMinute → b ≡ true → ltb lastMinute m ≡ false
-timely m b e f = le-ltb lastMinute m (leb-true m lastMinute (sym e ∙ f))
 
 -- a test that does not hold lets the rest decide
 pub pass : {A : Type 0} (t : Test Numbered) (ts : List (Test Numbered)) (Rule : A → Type 0) (a : Answer Numbered A)
@@ -39,6 +33,22 @@ stop t ts Rule h = rw h
 pub end : {A : Type 0} (Rule : A → Type 0) (x : A) → Rule x → Answers [] Rule (given x)
 unfolding answer Answers
 end Rule x w = (refl, w)
+
+-- the two tests that every question starts with
+module _ (s : List ℕ) (m : ℕ) {A : Type 0} (Rule : A → Type 0) (ts : List (Test Numbered)) {marked : Bool} (is : marked ≡ isStore s) where
+  pub no-store : not marked ≡ true → Answers (noStore s ∷ ts) Rule (refused (noStore s .refusal))
+  no-store h = stop (noStore s) ts Rule (ap not (sym is) ∙ h)
+
+  module _ {timed : Bool} (e : timed ≡ leb m lastMinute) (h : not marked ≡ false) where
+    pub too-late : not timed ≡ true → Answers (noStore s ∷ tooLate m ∷ ts) Rule (refused (tooLate m .refusal))
+    too-late k =
+        pass (noStore s) _ Rule _ (ap not (sym is) ∙ h)
+        (stop (tooLate m) ts Rule (lt-ltb lastMinute m (leb-false m lastMinute (sym e ∙ not-true _ k))))
+
+    pub both-pass : not timed ≡ false → (a : Answer Numbered A) → Answers ts Rule a → Answers (noStore s ∷ tooLate m ∷ ts) Rule a
+    both-pass k a w =
+        pass (noStore s) _ Rule a (ap not (sym is) ∙ h)
+        (pass (tooLate m) ts Rule a (le-ltb lastMinute m (leb-true m lastMinute (sym e ∙ not-false _ k))) w)
 
 -- what was let pass
 pub lets-pass : (t : Test Numbered) (ts : List (Test Numbered)) → answer {A = Unit {0}} (t ∷ ts) tt ≡ given tt

@@ -2,18 +2,16 @@
 -- of any table, since a tenth has one entry. Assumes nothing.
 use mathlib.Core.Path.{_≡_, refl, sym, ap, subst, _∙_}
 use mathlib.Core.Bool.{Bool, true, false, not, _&&_, cond}
-use mathlib.Core.List.{List, [], _∷_}
+use mathlib.Core.List.{[], _∷_}
 use Prim.Native.Nat.{ℕ}
 use native.Mathlib.Omega.{arith}
 use lib.IntN.{ℤ, pos}
-use lib.Signed.{leZ}
-use borrow.Author.Tests.{not-false}
-use Rattle.number.specs.Refusal.{Numbered, numbered, Test, Answer, refused, given, answer}
+use Rattle.number.specs.Refusal.{Numbered, numbered, Answer, refused, given, answer}
 use Rattle.quantity.specs.Limits.{inside, bulb, recordedPressure}
 use Rattle.settings.specs.Settings as settings
 use Rattle.vapour.specs.Vapour.{Near, water, IsTable}
 use Rattle.vapour.proofs.SaturationLaws.{near-one}
-use Rattle.humidity.specs.Humidity.{vapourPressure, wetAboveDry, tooDry, withinLimits, tests, moistureAs, IsHumidity, IsMoisture}
+use Rattle.humidity.specs.Humidity.{vapourPressure, wetAboveDry, tooDry, withinLimits, IsHumidity, IsMoisture}
 use Rattle.humidity.specs.declared.HumidityFigures.{HumidityFigures}
 use Rattle.humidity.specs.declared.Moisture.{Moisture}
 use Rattle.humidity.specs.declared.Moisture.the-variants.{Given, WetAboveDry, TooDry, OutsideLimits}

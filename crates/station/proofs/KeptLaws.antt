@@ -1,80 +1,155 @@
--- What is kept in a block lies within its channel's limits, whatever the block: a cell outside them counts as absent. By the
--- definition of what a cell says. Assumes nothing.
-use mathlib.Core.Path.{_≡_, refl, _∙_}
+-- What is kept in a block is of its channel's kind, in the unit of that kind and within its limits, whatever the block: a cell
+-- outside them counts as absent. By the definition of what a cell says. Assumes nothing.
+use mathlib.Core.Path.{_≡_, refl, sym, ap, _∙_}
 use mathlib.Core.Bool.{Bool, true, false, not, _&&_, _||_, cond}
-use mathlib.Core.List.{List}
+use mathlib.Core.List.{List, [], _∷_}
+use mathlib.Core.Logic.{inl, inr}
 use Prim.Native.Nat.{ℕ, _/_, _%_, _<_}
 use native.Mathlib.Omega.{arith}
-use lib.Dec.{eqb}
+use types.Run.{OneOf}
+use denote.Enum.Declared.{tagOf}
+use lib.Dec.{eqb, lit<}
 use lib.IntN.{ℤ, pos}
-use borrow.Author.Tests.{lt-ltb}
+use lib.ListN.{getD}
+use borrow.Author.Tests.{lt-ltb, eq-eqb, not-true}
 use Rattle.number.proofs.Sizes.{and-true}
 use Rattle.quantity.specs.Limits.{inside, degrees}
 use Rattle.quantity.specs.declared.BarometerUnit.{BarometerUnit}
-use Rattle.quantity.specs.declared.BarometerUnit.the-variants.{Hectopascals, Millimetres}
-use Rattle.message.specs.Receive.{°C, m/s, kn, pressure}
+use Rattle.message.specs.Receive.{Entry, °C, m/s, kn, pressure, entryOf}
+use Rattle.message.specs.declared.Reading.{Reading}
+use Rattle.message.specs.declared.Reading.the-variants as reading
+use Rattle.message.proofs.Reading.{the-type}
 use Rattle.window.specs.Window as window
 use Rattle.window.specs.declared.Found.{Found}
 use Rattle.window.specs.declared.Found.the-variants.{Absent, Cell}
-use Rattle.cell.specs.Cells.{CHANNELS}
-use Rattle.cell.specs.Cells.{unbiased, paired, firstIn, secondIn, entryIn, numberIn, limitsOf, soundIn}
-use Rattle.cell.specs.Cells.{Recall, absent, recalled}
+use Rattle.cell.specs.Cells.{CHANNELS, unbiased, paired, secondIn, entryIn, numberIn, limitsOf, soundIn, Recall, absent, recalled, recalledAs}
+use Rattle.cell.specs.declared.Recalled.{Recalled}
+use Rattle.cell.specs.declared.Recalled.the-variants.{Missing, Kept}
 use Rattle.block.specs.Words.{unitOf, windowOf}
 use Rattle.store.specs.Block.{recallIn, recallOf}
 use Rattle.store.specs.History.{isPresent}
-use Rattle.station.specs.Source.{numberOf, first, second}
+use Rattle.pressure.specs.Pressure.{barometerOf, inUnit, tenthsIn, isReading}
+use Rattle.pressure.proofs.PressureTheorems.{own-unit}
+use Rattle.station.specs.Source.{first, second, inCelsius, inMetresPerSecond, inKnots, inDegrees}
 
 never : {A : Type 0} → false ≡ true → A
 never e = let z : _≡_ {A = ℕ} 0 1 = cc in absurd (omega arith)
 
-of-pressure : (u : BarometerUnit) (z : ℤ) → numberOf (pressure u z) ≡ z
-of-pressure Hectopascals z = refl
-of-pressure Millimetres z = refl
-
--- the number of a cell's first figure
-first-number : (u : BarometerUnit) (c v : ℕ) → numberOf (firstIn u c v) ≡ numberIn c v
-first-number u c v = go (eqb c 0) (eqb c 2) (eqb c 3)
-  where
-    go : (i j k : Bool)
-        → numberOf (cond i (pressure u (pos (v % 65536))) (cond j (m/s (pos (v % 65536))) (cond k (kn (pos (v % 65536))) (°C (unbiased v)))))
-        ≡ cond (i || (j || k)) (pos (v % 65536)) (unbiased v)
-    go true j k = of-pressure u (pos (v % 65536))
-    go false true k = refl
-    go false false true = refl
-    go false false false = refl
+-- The number of a channel's first figure, in the unit that its formula asks for.
+abbrev pub numberOf : BarometerUnit → ℕ → Recall → ℤ
+numberOf u c x =
+    cond (eqb c 0) (tenthsIn u (first x))
+    (cond (eqb c 2) (pos (inMetresPerSecond x))
+    (cond (eqb c 3) (pos (inKnots x))
+    (inCelsius x)))
 
 -- what a present cell says
-record Sound (u : BarometerUnit) (c : ℕ) (x : Recall) : Type 0 where
+record Sound (u : BarometerUnit) (c m : ℕ) (x : Recall) : Type 0 where
   cell : ℕ
   sound : soundIn u c cell ≡ true
-  first-is : first x ≡ numberIn c cell
-  second-is : second x ≡ numberOf (secondIn c cell)
+  is : x ≡ recalled (entryIn u c m cell)
 
-sound-in : (u : BarometerUnit) (c m : ℕ) (f : Found) → isPresent (recallIn u c m f) ≡ true → Sound u c (recallIn u c m f)
+sound-in : (u : BarometerUnit) (c m : ℕ) (f : Found) → isPresent (recallIn u c m f) ≡ true → Sound u c m (recallIn u c m f)
 sound-in u c m Absent e = never e
 sound-in u c m (Cell v) e = go (soundIn u c v) refl e
   where
-    go : (b : Bool) → soundIn u c v ≡ b → isPresent (cond b (recalled (entryIn u c m v)) absent) ≡ true → Sound u c (cond b (recalled (entryIn u c m v)) absent)
-    go true s e = record { cell = v; sound = s; first-is = first-number u c v; second-is = refl }
+    go : (b : Bool) → soundIn u c v ≡ b → isPresent (cond b (recalled (entryIn u c m v)) absent) ≡ true → Sound u c m (cond b (recalled (entryIn u c m v)) absent)
+    go true s e = record { cell = v; sound = s; is = refl }
     go false s e = never e
 
+-- the number of a cell's first figure
+module _ (u : BarometerUnit) (c m v : ℕ) where
+  abbrev says : Bool → Bool → Bool → Recall
+  says i j k =
+      recalled (record {
+        channel = c;
+        minute = m;
+        first = cond i (pressure u (pos (v % 65536))) (cond j (m/s (pos (v % 65536))) (cond k (kn (pos (v % 65536))) (°C (unbiased v))));
+        second = secondIn c v;
+      })
+
+  first-number : numberOf u c (recalled (entryIn u c m v)) ≡ numberIn c v
+  first-number = go (eqb c 0) (eqb c 2) (eqb c 3)
+    where
+      go : (i j k : Bool)
+          → cond i (tenthsIn u (first (says i j k))) (cond j (pos (inMetresPerSecond (says i j k))) (cond k (pos (inKnots (says i j k))) (inCelsius (says i j k))))
+          ≡ cond (i || (j || k)) (pos (v % 65536)) (unbiased v)
+      go true j k = own-unit u (pos (v % 65536)) .1
+      go false true k = refl
+      go false false true = refl
+      go false false false = refl
+
 module _ (s : List ℕ) (c m : ℕ) (low : c < CHANNELS) (there : isPresent (recallOf s c m) ≡ true) where
-  kept : Sound (unitOf s) c (recallOf s c m)
+  kept : Sound (unitOf s) c m (recallOf s c m)
   unfolding recallOf
   kept =
       let here : isPresent (recallIn (unitOf s) c m (window.kept (windowOf c s) m)) ≡ true = rw (lt-ltb c CHANNELS low) at there in
       rw (lt-ltb c CHANNELS low) (sound-in (unitOf s) c m (window.kept (windowOf c s) m) here)
 
+  -- It is a reading of its channel.
+  pub channel-is : (e : Entry) → recallOf s c m ≡ recalled e → e .channel ≡ c
+  channel-is e i = let j = sym i ∙ kept .is in cc
+
   -- The first figure is within its limits.
-  pub first-inside : inside (limitsOf (unitOf s) c) (first (recallOf s c m)) ≡ true
+  pub first-inside : inside (limitsOf (unitOf s) c) (numberOf (unitOf s) c (recallOf s c m)) ≡ true
   first-inside =
-      rw (kept .first-is)
-      (and-true (inside (limitsOf (unitOf s) c) (numberIn c (kept .cell))) (not (paired c) || inside degrees (pos (kept .cell / 65536 % 65536))) (kept .sound) .0)
+      let v = kept .cell in
+      let is : numberOf (unitOf s) c (recallOf s c m) ≡ numberIn c v = ap (numberOf (unitOf s) c) (kept .is) ∙ first-number (unitOf s) c m v in
+      rw is (and-true (inside (limitsOf (unitOf s) c) (numberIn c v)) (not (paired c) || inside degrees (pos (v / 65536 % 65536))) (kept .sound) .0)
 
   -- So is the second, where there is one.
-  pub second-inside : paired c ≡ true → inside degrees (second (recallOf s c m)) ≡ true
+  pub second-inside : paired c ≡ true → inside degrees (pos (inDegrees (recallOf s c m))) ≡ true
   second-inside two =
       let v = kept .cell in
-      let is : second (recallOf s c m) ≡ pos (v / 65536 % 65536) = kept .second-is ∙ rw two in
+      let is : inDegrees (recallOf s c m) ≡ v / 65536 % 65536 = ap inDegrees (kept .is) ∙ rw two in
       let other : (not (paired c) || inside degrees (pos (v / 65536 % 65536))) ≡ true = and-true (inside (limitsOf (unitOf s) c) (numberIn c v)) _ (kept .sound) .1 in
       rw is (rw two at other)
+
+-- What channel 0 keeps is a reading of the block's barometer.
+pub is-reading : (s : List ℕ) (m : ℕ) → isPresent (recallOf s 0 m) ≡ true → isReading (barometerOf s) (first (recallOf s 0 m)) ≡ true
+is-reading s m there =
+    let k = kept s 0 m (lit< tt) there in
+    let unit : inUnit (unitOf s) (first (recallOf s 0 m)) ≡ true = ap (λ (x : Recall). inUnit (unitOf s) (first x)) (k .is) ∙ own-unit (unitOf s) (pos (k .cell % 65536)) .0 in
+    rw (unit, first-inside s 0 m (lit< tt) there)
+
+-- ---- what a recall comes to
+
+-- the channel of each case of a reading, in the order of the cases
+abbrev channelAt : ℕ → ℕ
+channelAt k = getD (0 ∷ 0 ∷ 1 ∷ 2 ∷ 3 ∷ 4 ∷ 5 ∷ []) k CHANNELS
+
+case-channel : (t : ℕ) (r : Reading) → entryOf t r .channel ≡ channelAt (tagOf the-type r)
+case-channel t (reading.Hectopascals p) = refl
+case-channel t (reading.Millimetres p) = refl
+case-channel t (reading.Wheelhouse x) = refl
+case-channel t (reading.ApparentWind v d) = refl
+case-channel t (reading.ShipMotion v d) = refl
+case-channel t (reading.DryBulb x) = refl
+case-channel t (reading.WetBulb x) = refl
+
+-- whether these cases are of other channels than c
+abbrev others : ℕ → List ℕ → Bool
+others c [] = true
+others c (k ∷ ks) = not (eqb (channelAt k) c) && others c ks
+
+not-this : (c n k : ℕ) → not (eqb (channelAt k) c) ≡ true → n ≡ k → channelAt n ≡ c → ⊥
+not-this c n k h i e = never (sym (not-true _ h) ∙ eq-eqb (channelAt k) c (sym (ap channelAt i) ∙ e))
+
+none-of : (c n : ℕ) (ks : List ℕ) → others c ks ≡ true → OneOf ks n → channelAt n ≡ c → ⊥
+none-of c n [] o i e = i
+none-of c n (k ∷ []) o i e = not-this c n k (and-true (not (eqb (channelAt k) c)) true o .0) i e
+none-of c n (k ∷ l ∷ ks) o (inl i) e = not-this c n k (and-true (not (eqb (channelAt k) c)) (others c (l ∷ ks)) o .0) i e
+none-of c n (k ∷ l ∷ ks) o (inr i) e = none-of c n (l ∷ ks) (and-true (not (eqb (channelAt k) c)) (others c (l ∷ ks)) o .1) i e
+
+module _ (s : List ℕ) (c m : ℕ) {x : Recalled} (told : recalledAs m x ≡ recallOf s c m) where
+  pub not-kept : x ≡ Missing → isPresent (recallOf s c m) ≡ false
+  not-kept e = ap isPresent (sym told ∙ ap (recalledAs m) e)
+
+  pub is-kept : {r : Reading} → x ≡ Kept r → recallOf s c m ≡ recalled (entryOf m r)
+  is-kept e = sym told ∙ ap (recalledAs m) e
+
+  -- A reading of another channel's kind never comes of it.
+  pub no-other : {A : Type 0} (r : Reading) → c < CHANNELS → x ≡ Kept r → (ks : List ℕ) → others c ks ≡ true → OneOf ks (tagOf the-type r) → A
+  no-other r low e ks o i =
+      let is = is-kept e in
+      absurd (none-of c (tagOf the-type r) ks o i (sym (case-channel m r) ∙ channel-is s c m low (ap isPresent is) (entryOf m r) is))

@@ -1,9 +1,9 @@
 -- Pressure and tendency: what a reading's work comes to, and what two minutes' pressures come to, test by test. Assumes nothing.
-use mathlib.Core.Path.{_≡_, refl, sym, ap, _∙_, subst}
-use mathlib.Core.Bool.{Bool, true, false, not, _||_, cond}
+use mathlib.Core.Path.{_≡_, refl, ap, _∙_}
+use mathlib.Core.Bool.{Bool, true, false, not, cond}
 use mathlib.Core.List.{List, [], _∷_}
 use mathlib.Core.Logic.{inl, inr}
-use Prim.Native.Nat.{ℕ, _-_, _≤_}
+use Prim.Native.Nat.{ℕ, _≤_}
 use native.Mathlib.Omega.{arith}
 use types.Run.{OneOf}
 use denote.Enum.Declared.{tagOf}
@@ -12,17 +12,17 @@ use lib.IntN.{ℤ, pos, negℤ, natAbs, _-ℤ_}
 use borrow.Author.Tests.{not-false}
 use Rattle.number.specs.Refusal.{Numbered, numbered, Test, Answer, refused, given, answer}
 use Rattle.number.proofs.Sizes.{within-size}
-use Rattle.quantity.specs.Limits.{inside, pressureLimits, wheelhouse}
+use Rattle.quantity.specs.Limits.{inside, wheelhouse}
+use Rattle.message.specs.Receive.{Figure}
 use Rattle.block.specs.Words.{unitOf}
 use Rattle.store.specs.History.{isPresent}
 use Rattle.message.proofs.Keep.{pressure-size}
-use Rattle.pressure.specs.Pressure.{Barometer, barometerOf, outside, seaLevel, seaLevelAnswer, stationPressure, stationAnswer, pressureAs}
+use Rattle.pressure.specs.Pressure.{Barometer, tenthsIn, isReading, outside, seaLevel, seaLevelAnswer, stationPressure, stationAnswer, pressureAs}
 use Rattle.pressure.specs.declared.WorkedPressure.{WorkedPressure}
 use Rattle.pressure.specs.declared.WorkedPressure.the-variants.{Given, OutsideLimits, OutsideCertificate}
 use Rattle.pressure.proofs.SizeLaws.{sea-level-stored}
-use Rattle.station.specs.Source.{Source, held, first}
-use Rattle.station.specs.Questions.{Answers, missingAt, outsideAt, seaLevelAt, PressureRule, tendencyTests, TendencyRule}
-use Rattle.station.specs.Told.{Change}
+use Rattle.station.specs.Source.{Source, held, inCelsius, readingAt}
+use Rattle.station.specs.Questions.{Answers, missingAt, outsideAt, seaLevelAt, PressureRule}
 use Rattle.station.specs.Parts.{TellsAt}
 use Rattle.station.specs.declared.AtMinute.{AtMinute}
 use Rattle.station.specs.declared.AtMinute.the-variants.{NotKept, Outside, SeaLevel}
@@ -46,15 +46,16 @@ got false z (Given p) e = (refl, cc)
 got false z OutsideLimits e = absurd (let z : _≡_ {A = ℕ} 0 1 = cc in omega arith)
 got false z OutsideCertificate e = absurd (let z : _≡_ {A = ℕ} 0 1 = cc in omega arith)
 
-pub sea-level-got : (b : Barometer) (r t : ℤ) (w : WorkedPressure) → inside (pressureLimits (b .unit)) r ≡ true → inside wheelhouse t ≡ true
-    → pressureAs w ≡ seaLevelAnswer b r t → Got (outside b r) (seaLevel b r t) w
-unfolding seaLevelAnswer answer
-sea-level-got b r t w i j e = got (outside b r) (seaLevel b r t) w (e ∙ rw (i, j))
+-- of what is a reading of the barometer
+module _ (b : Barometer) (f : Figure) (w : WorkedPressure) (shown : isReading b f ≡ true) where
+  pub sea-level-got : (t : ℤ) → inside wheelhouse t ≡ true → pressureAs w ≡ seaLevelAnswer b f t
+      → Got (outside b (tenthsIn (b .unit) f)) (seaLevel b (tenthsIn (b .unit) f) t) w
+  unfolding seaLevelAnswer answer
+  sea-level-got t j e = got _ _ w (e ∙ rw (shown, j))
 
-pub station-got : (b : Barometer) (r : ℤ) (w : WorkedPressure) → inside (pressureLimits (b .unit)) r ≡ true
-    → pressureAs w ≡ stationAnswer b r → Got (outside b r) (stationPressure b r) w
-unfolding stationAnswer answer
-station-got b r w i e = got (outside b r) (stationPressure b r) w (e ∙ rw i)
+  pub station-got : pressureAs w ≡ stationAnswer b f → Got (outside b (tenthsIn (b .unit) f)) (stationPressure b (tenthsIn (b .unit) f)) w
+  unfolding stationAnswer answer
+  station-got e = got _ _ w (e ∙ rw shown)
 
 -- ---- sea level pressure at a minute
 
@@ -72,7 +73,7 @@ module _ (S : Source) (m : ℕ) where
   pub at-missing : {A : Type 0} (Rule : A → Type 0) (c : ℕ) (rest : List (Test Numbered)) → TellsAt S m (NotKept c)
       → Answers (missingAt S m 0 ∷ missingAt S m 1 ∷ rest) Rule (refused (numbered 11 (c ∷ m ∷ [])))
   unfolding answer Answers code
-  at-missing Rule c rest w = go (isPresent (S .recall 0 m)) (isPresent (S .recall 1 m)) (outside (S .barometer) (first (S .recall 0 m))) refl refl w
+  at-missing Rule c rest w = go (isPresent (S .recall 0 m)) (isPresent (S .recall 1 m)) (outside (S .barometer) (readingAt S m)) refl refl w
     where
       go : (i j o : Bool) → isPresent (S .recall 0 m) ≡ i → isPresent (S .recall 1 m) ≡ j → told i j o ≡ refused (numbered 11 (c ∷ m ∷ []))
           → answer {A = Unit {0}} (missingAt S m 0 ∷ missingAt S m 1 ∷ rest) tt ≡ refused (numbered 11 (c ∷ m ∷ []))
@@ -81,19 +82,19 @@ module _ (S : Source) (m : ℕ) where
       go true true true p q e = absurd (let z = ap code e in omega arith)
       go true true false p q e = absurd (let z = ap code e in omega arith)
 
-  pub at-outside : TellsAt S m Outside → There × (outside (S .barometer) (first (S .recall 0 m)) ≡ true)
+  pub at-outside : TellsAt S m Outside → There × (outside (S .barometer) (readingAt S m) ≡ true)
   unfolding answer Answers code
-  at-outside w = go (isPresent (S .recall 0 m)) (isPresent (S .recall 1 m)) (outside (S .barometer) (first (S .recall 0 m))) refl refl refl w
+  at-outside w = go (isPresent (S .recall 0 m)) (isPresent (S .recall 1 m)) (outside (S .barometer) (readingAt S m)) refl refl refl w
     where
-      go : (i j o : Bool) → isPresent (S .recall 0 m) ≡ i → isPresent (S .recall 1 m) ≡ j → outside (S .barometer) (first (S .recall 0 m)) ≡ o
-          → told i j o ≡ refused (numbered 12 (m ∷ [])) → There × (outside (S .barometer) (first (S .recall 0 m)) ≡ true)
+      go : (i j o : Bool) → isPresent (S .recall 0 m) ≡ i → isPresent (S .recall 1 m) ≡ j → outside (S .barometer) (readingAt S m) ≡ o
+          → told i j o ≡ refused (numbered 12 (m ∷ [])) → There × (outside (S .barometer) (readingAt S m) ≡ true)
       go false j o p q r e = absurd (let z = ap code e in omega arith)
       go true false o p q r e = absurd (let z = ap code e in omega arith)
       go true true false p q r e = absurd (let z = ap code e in omega arith)
       go true true true p q r e = (record { pressure = p; warmth = q }, r)
 
   pub at-given : {A : Type 0} (Rule : A → Type 0) (x : A) → Answers (missingAt S m 0 ∷ missingAt S m 1 ∷ outsideAt S m ∷ []) Rule (given x)
-      → There × (outside (S .barometer) (first (S .recall 0 m)) ≡ false) × Rule x
+      → There × (outside (S .barometer) (readingAt S m) ≡ false) × Rule x
   at-given Rule x w =
       let a = passed (missingAt S m 0) _ Rule x w in
       let b = passed (missingAt S m 1) _ Rule x (a .1) in
@@ -108,7 +109,7 @@ module _ (S : Source) (m : ℕ) where
   at-there (SeaLevel p) k w = at-given (PressureRule S m) (p .0 .v) w .0
 
   pub at-no-pressure : (r : AtMinute) → OneOf (1 ∷ 2 ∷ []) (tagOf the-type r) → OneOf (0 ∷ 1 ∷ []) (tagOf the-type r) → TellsAt S m r
-      → outside (S .barometer) (first (S .recall 0 m)) ≡ true
+      → outside (S .barometer) (readingAt S m) ≡ true
   at-no-pressure (NotKept c) (inl k) o w = absurd (omega (arith, k))
   at-no-pressure (NotKept c) (inr k) o w = absurd (omega (arith, k))
   at-no-pressure Outside k o w = at-outside w .1
@@ -123,10 +124,11 @@ module _ (S : Source) (m : ℕ) where
 -- the pressures of any block are small enough for their difference to fit
 pub at-size : (s : List ℕ) (m : ℕ) → There (held s) m → natAbs (seaLevelAt (held s) m) ≤ 187828
 at-size s m t =
-    let x = held s .recall in
-    sea-level-stored s (first (x 0 m)) (first (x 1 m))
-    (omega (arith, pressure-size (unitOf s) (first (x 0 m)) (first-inside s 0 m (lit< tt) (t .pressure))))
-    (within-size (negℤ (pos 400)) (pos 600) (first (x 1 m)) 600 (lit≤ tt) (lit≤ tt) (first-inside s 1 m (lit< tt) (t .warmth)))
+    let r = readingAt (held s) m in
+    let warmth = inCelsius (held s .recall 1 m) in
+    sea-level-stored s r warmth
+    (omega (arith, pressure-size (unitOf s) r (first-inside s 0 m (lit< tt) (t .pressure))))
+    (within-size (negℤ (pos 400)) (pos 600) warmth 600 (lit≤ tt) (lit≤ tt) (first-inside s 1 m (lit< tt) (t .warmth)))
 
 pub less : {a b c d : ℤ} → a ≡ c → b ≡ d → a -ℤ b ≡ c -ℤ d
 less p q = cc

@@ -2,11 +2,11 @@
 -- a refusal is told by its number and extras, and each rule allows one figure. Assumes nothing.
 use mathlib.Core.Path.{_≡_, refl, sym, ap, _∙_}
 use mathlib.Core.Bool.{cond}
-use mathlib.Core.List.{List, [], _++_}
+use mathlib.Core.List.{List, [], _∷_, _++_}
 use Prim.Native.Nat.{ℕ}
 use denote.Ref.{now}
 use lib.Dec.{eqb}
-use lib.IntN.{ℤ, natAbs}
+use lib.IntN.{ℤ}
 use lib.ListN.{getD}
 use Rattle.number.specs.Single.{Single, SingleLeft}
 use Rattle.number.specs.Refusal.{Numbered, Test, Answer, refused, given}
@@ -20,12 +20,14 @@ use Rattle.wind.specs.declared.TrueWind.the-variants as blown
 use Rattle.wind.proofs.WindTheorems.{single-wind}
 use Rattle.humidity.specs.declared.HumidityFigures.{HumidityFigures}
 use Rattle.humidity.proofs.SingleAnswers.{one-humidity}
-use Rattle.station.specs.Source.{Source, held, first, second}
-use Rattle.station.specs.Questions.{Asked, question, Reply, AnsweredBy, TellsOf, TendencyRule, dryAt, wetAt, stationAt}
+use Rattle.station.specs.Source.{Source, held, inMetresPerSecond, inKnots, inDegrees}
+use Rattle.station.specs.Questions.{Asked, question, Reply, AnsweredBy, TellsOf, noStore, TendencyRule, dryAt, wetAt, stationAt}
 use Rattle.station.specs.Questions as asked
-use Rattle.station.specs.Told.{Change, refusalOf, pressureAs, tendencyAs, windAs, humidityAs}
+use Rattle.station.specs.Told.{Change, refusalOf, numberedAs, pressureAs, tendencyAs, windAs, humidityAs}
 use Rattle.station.specs.declared.QuestionRefusal.{QuestionRefusal}
-use Rattle.station.specs.declared.QuestionRefusal.the-variants.{MinuteTooLate, OutsideLimits, MissingReading, OutsideCertificate, WetAboveDry, NoThreeHours, TooDry}
+use Rattle.station.specs.declared.QuestionRefusal.the-variants.{MinuteTooLate, OutsideLimits, MissingReading, OutsideCertificate, WetAboveDry, NoThreeHours, TooDry, NoStore}
+use Rattle.station.specs.declared.Refused.{Refused}
+use Rattle.station.specs.declared.Refused.the-variants.{Plain, OfMinute, OfReading}
 use Rattle.station.specs.declared.PressureAnswer.{PressureAnswer}
 use Rattle.station.specs.declared.PressureAnswer.the-variants as pressed
 use Rattle.station.specs.declared.TendencyAnswer.{TendencyAnswer}
@@ -37,6 +39,7 @@ use Rattle.station.specs.declared.HumidityAnswer.the-variants as moist
 use Rattle.station.proofs.AnswerLaws.{one-answer}
 use Rattle.station.proofs.«open».Reads as opening
 use Rattle.station.proofs.hear.Reads as hear
+use Rattle.station.proofs.number.Reads as number
 use Rattle.station.proofs.pressure.Reads as pressure
 use Rattle.station.proofs.tendency.Reads as tendency
 use Rattle.station.proofs.wind.Reads as wind
@@ -70,7 +73,8 @@ refusal n =
     (cond (eqb (n .number) 12) (OutsideCertificate (minute-of (getD (n .extra) 0 0)))
     (cond (eqb (n .number) 13) WetAboveDry
     (cond (eqb (n .number) 14) NoThreeHours
-    TooDry)))))
+    (cond (eqb (n .number) 15) TooDry
+    NoStore))))))
 
 refusal-back : (r : QuestionRefusal) → refusal (refusalOf r) ≡ r
 unfolding refusal
@@ -81,6 +85,24 @@ refusal-back (OutsideCertificate m) = refl
 refusal-back WetAboveDry = refl
 refusal-back NoThreeHours = refl
 refusal-back TooDry = refl
+refusal-back NoStore = refl
+
+-- and so is the number itself
+number-of : ℕ → List ℕ → Refused
+unfolding minute-of
+number-of n [] = Plain n
+number-of n (m ∷ []) = OfMinute n (minute-of m)
+number-of n (c ∷ m ∷ more) = OfReading n c (minute-of m)
+
+number-back : (r : Refused) → number-of (numberedAs r .number) (numberedAs r .extra) ≡ r
+unfolding number-of
+number-back (Plain n) = refl
+number-back (OfMinute n m) = refl
+number-back (OfReading n c m) = refl
+
+pub single-number : Single number.Post
+single-number κs a r r′ s s′ p q =
+    sym (number-back r) ∙ ap (λ (n : Numbered). number-of (n .number) (n .extra)) (p ∙ sym q) ∙ number-back r′
 
 tenths : ℤ → Hectopascals
 tenths z = record { 0 = record { v = z } }
@@ -161,7 +183,7 @@ one-figure : (q : Asked) (S : Source) (m : ℕ) (x y : question q .Figures) → 
 one-figure asked.pressure S m x y v w = v ∙ sym w
 one-figure asked.tendency S m x y v w = one-change S m x y v w
 one-figure asked.wind S m x y v w =
-    single-wind (natAbs (second (S .recall 3 m))) (natAbs (first (S .recall 3 m))) (natAbs (first (S .recall 2 m))) (natAbs (second (S .recall 2 m))) x y v w
+    single-wind (inDegrees (S .recall 3 m)) (inKnots (S .recall 3 m)) (inMetresPerSecond (S .recall 2 m)) (inDegrees (S .recall 2 m)) x y v w
 one-figure asked.humidity S m x y v w = one-humidity (dryAt S m) (wetAt S m) (stationAt S m) (S .psychrometer) x y v w
 
 pub one-reply : (q : Asked) (before more : List (Test Numbered)) (S : Source) (m : ℕ) (r r′ : Reply q)
@@ -174,7 +196,7 @@ one-reply q before more S m r r′ v w =
     ∙ answer-back q r′
 
 one-of : (q : Asked) (s : List ℕ) (m : ℕ) (r r′ : Reply q) → TellsOf q s m r → TellsOf q s m r′ → r ≡ r′
-one-of q s m = one-reply q [] (question q .foreign (held s) m) (held s) m
+one-of q s m = one-reply q (noStore s ∷ []) (question q .foreign (held s) m) (held s) m
 
 pub single-pressure : Single pressure.Post
 single-pressure κs a r r′ s s′ p q = one-of asked.pressure (now (a .0)) (a .1 .0) r r′ (p .0) (q .0)

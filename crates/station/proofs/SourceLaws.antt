@@ -1,19 +1,19 @@
 -- An answer rests on nothing but what its question reads: where two sources agree on that, what the one allows the other allows.
 -- Test by test, and figure by figure. Assumes nothing.
-use mathlib.Core.Path.{_≡_, refl, sym, ap, _∙_}
-use mathlib.Core.Bool.{Bool, true, false, not, _&&_, _||_, cond}
-use mathlib.Core.List.{List, [], _∷_, _++_}
+use mathlib.Core.Path.{_≡_, refl, ap, _∙_}
+use mathlib.Core.Bool.{Bool, true, false, not, _||_}
+use mathlib.Core.List.{[], _∷_}
 use Prim.Native.Nat.{ℕ, _-_}
-use native.Mathlib.Omega.{arith}
 use lib.Dec.{eqb}
-use lib.IntN.{ℤ, natAbs, _-ℤ_}
+use lib.IntN.{ℤ, _-ℤ_}
 use borrow.Author.Tests.{eq-eqb}
-use Rattle.number.specs.Refusal.{Numbered, Test, Answer, refused, given, answer}
+use Rattle.quantity.specs.Limits.{threeHours}
+use Rattle.quantity.specs.declared.BarometerUnit.{BarometerUnit}
 use Rattle.cell.specs.Cells.{Recall}
 use Rattle.store.specs.History.{isPresent}
-use Rattle.pressure.specs.Pressure.{outside, seaLevel, stationPressure}
+use Rattle.pressure.specs.Pressure.{outside, seaLevel, stationPressure, tenthsIn}
 use Rattle.pressure.proofs.PressureTheorems.{Alike, alike-outside, alike-sea-level, alike-station}
-use Rattle.station.specs.Source.{Source, first, second}
+use Rattle.station.specs.Source.{Source, first, inCelsius, inMetresPerSecond, inKnots, inDegrees, readingAt}
 use Rattle.station.specs.Questions.{Asked, question, Reply, isIn, reads, Answers, Tells, test, tooLate, noThreeHours, missingAt, outsideAt, seaLevelAt, stationAt, pressureTests, PressureRule, tendencyTests, TendencyRule, windTests, WindRule, humidityTests, HumidityRule}
 use Rattle.station.specs.Questions as asked
 use Rattle.station.specs.Told.{Change, pressureAs, tendencyAs, windAs, humidityAs}
@@ -40,27 +40,29 @@ module _ (S S′ : Source) where
   missing-same m c e = ap (λ (x : Recall). test 11 (c ∷ m ∷ []) (not (isPresent x))) e
 
   module _ (barometer : Alike (S .barometer) (S′ .barometer)) where
+    reading-same : (m : ℕ) → Same m 0 → readingAt S m ≡ readingAt S′ m
+    reading-same m e =
+        ap (λ (x : Recall). tenthsIn (S .barometer .unit) (first x)) e ∙ ap (λ (u : BarometerUnit). tenthsIn u (first (S′ .recall 0 m))) (barometer .unit)
+
     outside-same : (m : ℕ) → Same m 0 → outsideAt S m ≡ outsideAt S′ m
     outside-same m e =
         ap (λ (b : Bool). test 12 (m ∷ []) b)
-        (ap (λ (x : Recall). outside (S .barometer) (first x)) e ∙ alike-outside (S .barometer) (S′ .barometer) barometer (first (S′ .recall 0 m)))
+        (ap (outside (S .barometer)) (reading-same m e) ∙ alike-outside (S .barometer) (S′ .barometer) barometer (readingAt S′ m))
 
     sea-level-same : (m : ℕ) → Same m 0 → Same m 1 → seaLevelAt S m ≡ seaLevelAt S′ m
     sea-level-same m e f =
-        ap (λ (x : Recall). seaLevel (S .barometer) (first x) (first (S .recall 1 m))) e
-        ∙ ap (λ (x : Recall). seaLevel (S .barometer) (first (S′ .recall 0 m)) (first x)) f
-        ∙ alike-sea-level (S .barometer) (S′ .barometer) barometer (first (S′ .recall 0 m)) (first (S′ .recall 1 m))
+        ap (λ (r : ℤ). seaLevel (S .barometer) r (inCelsius (S .recall 1 m))) (reading-same m e)
+        ∙ ap (λ (x : Recall). seaLevel (S .barometer) (readingAt S′ m) (inCelsius x)) f
+        ∙ alike-sea-level (S .barometer) (S′ .barometer) barometer (readingAt S′ m) (inCelsius (S′ .recall 1 m))
 
     pub station-same : (m : ℕ) → Same m 0 → stationAt S m ≡ stationAt S′ m
-    station-same m e =
-        ap (λ (x : Recall). stationPressure (S .barometer) (first x)) e
-        ∙ alike-station (S .barometer) (S′ .barometer) barometer (first (S′ .recall 0 m))
+    station-same m e = ap (stationPressure (S .barometer)) (reading-same m e) ∙ alike-station (S .barometer) (S′ .barometer) barometer (readingAt S′ m)
 
-    module _ (m : ℕ) (e : Same m 0) (f : Same m 1) (e′ : Same (m - 180) 0) (f′ : Same (m - 180) 1) (missing : S .missing m ≡ S′ .missing m) where
+    module _ (m : ℕ) (e : Same m 0) (f : Same m 1) (e′ : Same (m - threeHours) 0) (f′ : Same (m - threeHours) 1) (missing : S .missing m ≡ S′ .missing m) where
       change-same : (t : Change) → TendencyRule S m t → TendencyRule S′ m t
       change-same t w =
           record {
-            change = w .change ∙ ap (λ (z : ℤ). z -ℤ seaLevelAt S (m - 180)) (sea-level-same m e f) ∙ ap (λ (z : ℤ). seaLevelAt S′ m -ℤ z) (sea-level-same (m - 180) e′ f′);
+            change = w .change ∙ ap (λ (z : ℤ). z -ℤ seaLevelAt S (m - threeHours)) (sea-level-same m e f) ∙ ap (λ (z : ℤ). seaLevelAt S′ m -ℤ z) (sea-level-same (m - threeHours) e′ f′);
             absent = w .absent ∙ missing;
           }
 
@@ -92,15 +94,15 @@ module _ (S S′ : Source) (m : ℕ) where
   tendency-tells a r false false h i =
       let p = a .kept 0 m (rw (h, i, same-minute m)) in
       let t = a .kept 1 m (rw (h, i, same-minute m)) in
-      let p′ = a .kept 0 (m - 180) (rw (h, i, same-minute (m - 180)) (either (eqb (m - 180) m))) in
-      let t′ = a .kept 1 (m - 180) (rw (h, i, same-minute (m - 180)) (either (eqb (m - 180) m))) in
+      let p′ = a .kept 0 (m - threeHours) (rw (h, i, same-minute (m - threeHours)) (either (eqb (m - threeHours) m))) in
+      let t′ = a .kept 1 (m - threeHours) (rw (h, i, same-minute (m - threeHours)) (either (eqb (m - threeHours) m))) in
       carry (tendencyTests S m) (tendencyTests S′ m) (λ t. TendencyRule S m t) (λ t. TendencyRule S′ m t) (tendencyAs r)
       (rw (
-        missing-same S S′ (m - 180) 0 p′,
-        missing-same S S′ (m - 180) 1 t′,
+        missing-same S S′ (m - threeHours) 0 p′,
+        missing-same S S′ (m - threeHours) 1 t′,
         missing-same S S′ m 0 p,
         missing-same S S′ m 1 t,
-        outside-same S S′ (a .barometer) (m - 180) p′,
+        outside-same S S′ (a .barometer) (m - threeHours) p′,
         outside-same S S′ (a .barometer) m p,
       ))
       (change-same S S′ (a .barometer) m p t p′ t′ (a .missing refl))
@@ -113,7 +115,7 @@ module _ (S S′ : Source) (m : ℕ) where
       let ship = a .kept 3 m (rw (h, same-minute m)) in
       carry (windTests S m) (windTests S′ m) (WindRule S m) (WindRule S′ m) (windAs r)
       (rw (missing-same S S′ m 2 wind, missing-same S S′ m 3 ship))
-      (λ w. wind-of w (ap (λ (x : Recall). natAbs (second x)) ship) (ap (λ (x : Recall). natAbs (first x)) ship) (ap (λ (x : Recall). natAbs (first x)) wind) (ap (λ (x : Recall). natAbs (second x)) wind))
+      (λ w. wind-of w (ap inDegrees ship) (ap inKnots ship) (ap inMetresPerSecond wind) (ap inDegrees wind))
 
   humidity-tells : Agree asked.humidity S S′ m → (table : ℤ → ℕ) (r : HumidityAnswer) (late : Bool) → tooLate m .holds ≡ late
       → Answers (humidityTests [] table S m) (HumidityRule S m) (humidityAs r) → Answers (humidityTests [] table S′ m) (HumidityRule S′ m) (humidityAs r)

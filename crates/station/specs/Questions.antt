@@ -4,10 +4,12 @@ use mathlib.Core.Bool.{Bool, false, not, _&&_, _||_, cond}
 use mathlib.Core.List.{List, [], _∷_, _++_}
 use Prim.Native.Nat.{ℕ, _-_}
 use lib.Dec.{eqb, ltb}
-use lib.IntN.{ℤ, natAbs, _-ℤ_}
+use lib.IntN.{ℤ, _-ℤ_}
 use Rattle.number.specs.Refusal.{Numbered, numbered, Test, Answer, refused, given, answer}
-use Rattle.quantity.specs.Limits.{lastMinute, inside, recordedPressure}
+use Rattle.quantity.specs.Limits.{lastMinute, threeHours, inside, recordedPressure}
 use Rattle.settings.specs.Settings as settings
+use Rattle.block.specs.Layout.{NO_STORE}
+use Rattle.block.specs.Words.{isStore}
 use Rattle.store.specs.History.{isPresent}
 use Rattle.pressure.specs.Pressure.{outside, seaLevel, stationPressure}
 use Rattle.vapour.specs.Vapour.{IsTable}
@@ -15,7 +17,7 @@ use Rattle.wind.specs.Answer.{IsWind}
 use Rattle.wind.specs.declared.TrueWind.{TrueWind}
 use Rattle.humidity.specs.Humidity.{vapourPressure, wetAboveDry, tooDry, IsHumidity}
 use Rattle.humidity.specs.declared.HumidityFigures.{HumidityFigures}
-use Rattle.station.specs.Source.{Source, held, first, second}
+use Rattle.station.specs.Source.{Source, held, inCelsius, inMetresPerSecond, inKnots, inDegrees, readingAt}
 use Rattle.station.specs.Told.{Change, pressureAs, tendencyAs, windAs, humidityAs}
 use Rattle.station.specs.declared.PressureAnswer.{PressureAnswer}
 use Rattle.station.specs.declared.TendencyAnswer.{TendencyAnswer}
@@ -27,13 +29,17 @@ use Rattle.station.specs.declared.HumidityAnswer.{HumidityAnswer}
 abbrev pub test : ℕ → List ℕ → Bool → Test Numbered
 test n extra reason = record { refusal = numbered n extra; holds = reason }
 
+-- "a refused opening gives no store": a block that no opening marked answers no question.
+abbrev pub noStore : List ℕ → Test Numbered
+noStore s = test NO_STORE [] (not (isStore s))
+
 -- 5: "minute above 16,777,215, .. asked"
 abbrev pub tooLate : ℕ → Test Numbered
 tooLate m = test 5 [] (ltb lastMinute m)
 
 -- 14: "tendency asked for a minute below 180"
 abbrev pub noThreeHours : ℕ → Test Numbered
-noThreeHours m = test 14 [] (ltb m 180)
+noThreeHours m = test 14 [] (ltb m threeHours)
 
 -- 11: "reading absent or no longer kept", with "channel, minute"
 abbrev pub missingAt : Source → ℕ → ℕ → Test Numbered
@@ -41,7 +47,7 @@ missingAt S m c = test 11 (c ∷ m ∷ []) (not (isPresent (S .recall c m)))
 
 -- 12: "barometer reading outside the certificate", with "minute"
 abbrev pub outsideAt : Source → ℕ → Test Numbered
-outsideAt S m = test 12 (m ∷ []) (outside (S .barometer) (first (S .recall 0 m)))
+outsideAt S m = test 12 (m ∷ []) (outside (S .barometer) (readingAt S m))
 
 -- An answer: the first refusal whose reason holds, or figures by their rule.
 unfoldable pub Answers : {A : Type 0} → List (Test Numbered) → (A → Type 0) → Answer Numbered A → Type 0
@@ -52,7 +58,7 @@ Answers tests Rule (given a) = (answer {A = Unit {0}} tests tt ≡ given tt) × 
 
 -- Sea level pressure at a minute.
 abbrev pub seaLevelAt : Source → ℕ → ℤ
-seaLevelAt S m = seaLevel (S .barometer) (first (S .recall 0 m)) (first (S .recall 1 m))
+seaLevelAt S m = seaLevel (S .barometer) (readingAt S m) (inCelsius (S .recall 1 m))
 
 abbrev pub pressureTests : Source → ℕ → List (Test Numbered)
 pressureTests S m = tooLate m ∷ missingAt S m 0 ∷ missingAt S m 1 ∷ outsideAt S m ∷ []
@@ -67,15 +73,15 @@ abbrev pub tendencyTests : Source → ℕ → List (Test Numbered)
 tendencyTests S m =
     tooLate m
     ∷ noThreeHours m
-    ∷ missingAt S (m - 180) 0 ∷ missingAt S (m - 180) 1
+    ∷ missingAt S (m - threeHours) 0 ∷ missingAt S (m - threeHours) 1
     ∷ missingAt S m 0 ∷ missingAt S m 1
-    ∷ outsideAt S (m - 180) ∷ outsideAt S m
+    ∷ outsideAt S (m - threeHours) ∷ outsideAt S m
     ∷ []
 
 -- "Tendency at minute m: sea level pressure at m less that at m - 180, signed. With it goes the number of absent barometer
 -- minutes among the 179 strictly between."
 pub record TendencyRule (S : Source) (m : ℕ) (t : Change) : Type 0 where
-  pub change : t .change ≡ seaLevelAt S m -ℤ seaLevelAt S (m - 180)
+  pub change : t .change ≡ seaLevelAt S m -ℤ seaLevelAt S (m - threeHours)
   pub absent : t .absent ≡ S .missing m
 
 -- ---- wind
@@ -85,20 +91,19 @@ windTests S m = tooLate m ∷ missingAt S m 2 ∷ missingAt S m 3 ∷ []
 
 -- Course and ship's speed of channel 3, speed and direction from the bow of channel 2.
 abbrev pub WindRule : Source → ℕ → TrueWind → Type 0
-WindRule S m w =
-    IsWind (natAbs (second (S .recall 3 m))) (natAbs (first (S .recall 3 m))) (natAbs (first (S .recall 2 m))) (natAbs (second (S .recall 2 m))) w
+WindRule S m w = IsWind (inDegrees (S .recall 3 m)) (inKnots (S .recall 3 m)) (inMetresPerSecond (S .recall 2 m)) (inDegrees (S .recall 2 m)) w
 
 -- ---- humidity
 
 -- Dry bulb, wet bulb, and the pressure at the station.
 abbrev pub dryAt : Source → ℕ → ℤ
-dryAt S m = first (S .recall 4 m)
+dryAt S m = inCelsius (S .recall 4 m)
 
 abbrev pub wetAt : Source → ℕ → ℤ
-wetAt S m = first (S .recall 5 m)
+wetAt S m = inCelsius (S .recall 5 m)
 
 abbrev pub stationAt : Source → ℕ → ℤ
-stationAt S m = stationPressure (S .barometer) (first (S .recall 0 m))
+stationAt S m = stationPressure (S .barometer) (readingAt S m)
 
 -- e, with table(wet)
 abbrev pub vapourAt : (ℤ → ℕ) → Source → ℕ → ℤ
@@ -158,7 +163,7 @@ question tendency =
       foreign = λ S m. [];
       Rule = λ S m t. TendencyRule S m t;
       channels = 0 ∷ 1 ∷ [];
-      minutes = λ m. cond (tooLate m .holds || noThreeHours m .holds) [] (m ∷ (m - 180) ∷ []);
+      minutes = λ m. cond (tooLate m .holds || noThreeHours m .holds) [] (m ∷ (m - threeHours) ∷ []);
     }
 question wind =
     record {
@@ -203,6 +208,6 @@ AnsweredBy q before more S m r =
 abbrev pub Tells : (q : Asked) → Source → ℕ → Reply q → Type 0
 Tells q S m r = AnsweredBy q [] [] S m r
 
--- What each function promises of the block that it is asked, whatever that holds.
+-- What each function promises of the block that it is asked, whatever that holds: whether it is a store is tested first.
 abbrev pub TellsOf : (q : Asked) → List ℕ → ℕ → Reply q → Type 0
-TellsOf q s m r = AnsweredBy q [] (question q .foreign (held s) m) (held s) m r
+TellsOf q s m r = AnsweredBy q (noStore s ∷ []) (question q .foreign (held s) m) (held s) m r

@@ -1,16 +1,16 @@
 -- What a question is answered from.
-use mathlib.Core.Path.{_≡_}
 use mathlib.Core.List.{List}
 use Prim.Native.Nat.{ℕ}
-use lib.IntN.{ℤ, pos}
-use Rattle.message.specs.Receive.{Figure, hPa, mmHg, °C, m/s, kn, deg, none}
+use lib.IntN.{ℤ, pos, natAbs}
+use Rattle.quantity.specs.Limits.{minutesBetween}
+use Rattle.message.specs.Receive.{Figure, none, byUnit, itself, nought}
 use Rattle.settings.specs.declared.Settings.{Settings}
 use Rattle.window.specs.Window.{absents}
 use Rattle.cell.specs.Cells.{Recall, absent, recalled}
 use Rattle.block.specs.Words.{settingOf}
 use Rattle.store.specs.Block.{recallOf, absentOf}
 use Rattle.store.specs.History.{history, remembered, isPresent}
-use Rattle.pressure.specs.Pressure.{Barometer, barometerIn, barometerOf}
+use Rattle.pressure.specs.Pressure.{Barometer, barometerIn, barometerOf, tenthsIn}
 
 -- The barometer and its certificate, A, what is kept of a channel's minute, and how many of the 179 minutes before a minute have
 -- no barometer reading.
@@ -27,7 +27,7 @@ heard g M =
       barometer = barometerIn g;
       psychrometer = g .psychrometer .0 .v;
       recall = λ c m. remembered (history (g .unit) c M) m;
-      missing = λ m. absents (λ j. isPresent (remembered (history (g .unit) 0 M) j)) m 179;
+      missing = λ m. absents (λ j. isPresent (remembered (history (g .unit) 0 M) j)) m minutesBetween;
     }
 
 -- A block's words, whatever they are.
@@ -40,21 +40,32 @@ held s =
       missing = absentOf s 0;
     }
 
--- A figure without its unit.
-abbrev pub numberOf : Figure → ℤ
-numberOf (hPa z) = z
-numberOf (mmHg z) = z
-numberOf (°C z) = z
-numberOf (m/s z) = z
-numberOf (kn z) = z
-numberOf (deg z) = z
-numberOf none = pos 0
+-- ---- what is kept of a channel's minute, in a unit
 
--- The values of a reading; an absent one has none, and no answer is worked from it.
-abbrev pub first : Recall → ℤ
-first absent = pos 0
-first (recalled e) = numberOf (e .first)
+-- Its figures: an absent reading has none.
+abbrev pub first : Recall → Figure
+first absent = none
+first (recalled e) = e .first
 
-abbrev pub second : Recall → ℤ
-second absent = pos 0
-second (recalled e) = numberOf (e .second)
+abbrev pub second : Recall → Figure
+second absent = none
+second (recalled e) = e .second
+
+-- "Knots and metres per second, and millimetres of mercury and hectopascals, are kept apart until a formula joins them." A formula
+-- asks for its unit: tenths of °C, of m/s and of a knot, and whole degrees. A figure that has another unit is 0 to it, and no answer
+-- is worked from that.
+abbrev pub inCelsius : Recall → ℤ
+inCelsius x = byUnit nought nought itself nought nought nought (pos 0) (first x)
+
+abbrev pub inMetresPerSecond : Recall → ℕ
+inMetresPerSecond x = natAbs (byUnit nought nought nought itself nought nought (pos 0) (first x))
+
+abbrev pub inKnots : Recall → ℕ
+inKnots x = natAbs (byUnit nought nought nought nought itself nought (pos 0) (first x))
+
+abbrev pub inDegrees : Recall → ℕ
+inDegrees x = natAbs (byUnit nought nought nought nought nought itself (pos 0) (second x))
+
+-- What the barometer shows, in tenths of its unit.
+abbrev pub readingAt : Source → ℕ → ℤ
+readingAt S m = tenthsIn (S .barometer .unit) (first (S .recall 0 m))

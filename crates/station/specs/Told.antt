@@ -1,14 +1,16 @@
--- Document 01's number and values of each case of an answer.
-use mathlib.Core.Path.{_≡_}
-use mathlib.Core.List.{List, [], _∷_}
+-- Document 01's number and values of each case of an answer, and the number of a block that is no store.
+use mathlib.Core.List.{[], _∷_}
 use Prim.Native.Nat.{ℕ}
 use lib.IntN.{ℤ}
 use Rattle.number.specs.Refusal.{Numbered, numbered, Answer, refused, given}
+use Rattle.block.specs.Layout.{NO_STORE}
 use Rattle.wind.specs.declared.TrueWind.{TrueWind}
 use Rattle.wind.specs.declared.TrueWind.the-variants.{Blows}
 use Rattle.humidity.specs.declared.HumidityFigures.{HumidityFigures}
 use Rattle.station.specs.declared.QuestionRefusal.{QuestionRefusal}
-use Rattle.station.specs.declared.QuestionRefusal.the-variants.{MinuteTooLate, OutsideLimits, MissingReading, OutsideCertificate, WetAboveDry, NoThreeHours, TooDry}
+use Rattle.station.specs.declared.QuestionRefusal.the-variants.{MinuteTooLate, OutsideLimits, MissingReading, OutsideCertificate, WetAboveDry, NoThreeHours, TooDry, NoStore}
+use Rattle.station.specs.declared.Refused.{Refused}
+use Rattle.station.specs.declared.Refused.the-variants.{Plain, OfMinute, OfReading}
 use Rattle.station.specs.declared.PressureAnswer.{PressureAnswer}
 use Rattle.station.specs.declared.PressureAnswer.the-variants as pressure
 use Rattle.station.specs.declared.TendencyAnswer.{TendencyAnswer}
@@ -26,6 +28,13 @@ refusalOf (OutsideCertificate m) = numbered 12 (m .0 ∷ [])
 refusalOf WetAboveDry = numbered 13 []
 refusalOf NoThreeHours = numbered 14 []
 refusalOf TooDry = numbered 15 []
+refusalOf NoStore = numbered NO_STORE []
+
+-- The same as a number with what it also returns.
+abbrev pub numberedAs : Refused → Numbered
+numberedAs (Plain n) = numbered n []
+numberedAs (OfMinute n m) = numbered n (m .0 ∷ [])
+numberedAs (OfReading n c m) = numbered n (c ∷ m .0 ∷ [])
 
 -- A change of pressure in tenths of hPa, and how many minutes are absent.
 pub record Change : Type 0 where

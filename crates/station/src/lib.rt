@@ -1,32 +1,25 @@
 // What a ship calls: a store is opened, hears messages, and is asked for pressure, tendency, true wind and humidity.
 // Any block, any bytes, any minute gets an answer; asking changes nothing.
 ghost use mathlib.Core.Path.{_≡_};
-ghost use mathlib.Core.Bool.{true};
-ghost use Prim.Native.Nat.{ℕ, _<_, _^_};
-ghost use lib.IntN.{natAbs};
-ghost use Rattle.message.specs.Receive.{entryOf};
 ghost use Rattle.settings.specs.Settings.{checked, checkedAs};
-ghost use Rattle.wind.specs.Answer.{withinLimits};
 ghost use Rattle.store.specs.Block.{openedBy, recallOf, Hears};
-ghost use Rattle.cell.specs.Cells.{recalled};
 ghost use Rattle.station.specs.Source.{held};
 ghost use Rattle.station.specs.Questions.{TellsOf};
 ghost use Rattle.station.specs.Questions as asked;
-ghost use Rattle.station.specs.Parts.{Reads, PressureReady, Works, HumidityReady, Blowing, Moist, TellsAt};
+ghost use Rattle.station.specs.Told.{refusalOf, numberedAs};
+ghost use Rattle.station.specs.Parts.{Shows, TellsAt};
+use block::NO_STORE;
 use block::Store;
 use cell::Recalled;
 use humidity::HumidityFigures;
 use humidity::Moisture;
 use message::Reading;
-use number::Number;
+use pressure::BarometerReading;
 use pressure::WorkedPressure;
-use quantity::BulbTemperature;
 use quantity::Degrees;
 use quantity::Hectopascals;
-use quantity::Knots;
 use quantity::MetresPerSecond;
 use quantity::Minute;
-use quantity::WheelhouseTemperature;
 use settings::Checked;
 use settings::Settings;
 use store::Hearing;
@@ -48,6 +41,15 @@ pub enum QuestionRefusal {
     NoThreeHours,
     // 15
     TooDry,
+    // none of document 01's: the block is no store
+    NoStore,
+}
+
+// A refusal's number, with the minute, or the channel and the minute, that it also returns.
+pub enum Refused {
+    Plain(u32),
+    OfMinute(u32, Minute),
+    OfReading(u32, u32, Minute),
 }
 
 // Pressure at sea level.
@@ -73,10 +75,10 @@ pub enum HumidityAnswer {
     Refused(QuestionRefusal),
 }
 
-// The figures of a reading.
-enum Figures {
-    NotThere,
-    Both(Number, Number),
+// What the barometer shows at a minute.
+enum Shown {
+    Nothing,
+    Shows(BarometerReading),
 }
 
 // Sea level pressure at a minute, or the channel that has no reading, or that the reading lies outside the certificate.
@@ -102,60 +104,37 @@ pub fn hear(store: &mut Store, message: &[u8]) -> Hearing
     store::hear(store, message)
 }
 
-// ---- readings
+// ---- refusals
 
-// The figures of a reading: a pressure or a temperature and 0, or a speed and a direction.
-fn figures_of(r: Reading) -> Figures
-    ensures { λ x. ⌜ ((t : ℕ) → Reads (recalled (entryOf t r)) x) ⌝ }
+// Document 01's number of a question's refusal, and what it also returns. A block that is no store has `NO_STORE`.
+pub fn number(r: QuestionRefusal) -> Refused
+    ensures { λ x. ⌜ numberedAs x ≡ refusalOf r ⌝ }
 {
-    let nought = Number { v: 0 };
     match r {
-        Reading::Hectopascals(p) => {
-            let n = p.0;
-            Figures::Both(n, nought)
-        }
-        Reading::Millimetres(p) => {
-            let n = p.0;
-            Figures::Both(n.number(), nought)
-        }
-        Reading::Wheelhouse(t) => {
-            let n = t.0;
-            Figures::Both(n.number(), nought)
-        }
-        Reading::ApparentWind(v, d) => Figures::Both(Number::whole(v.0), Number::whole(d.0)),
-        Reading::ShipMotion(v, d) => Figures::Both(Number::whole(v.0), Number::whole(d.0)),
-        Reading::DryBulb(t) => {
-            let n = t.0;
-            Figures::Both(n.number(), nought)
-        }
-        Reading::WetBulb(t) => {
-            let n = t.0;
-            Figures::Both(n.number(), nought)
-        }
-    }
-}
-
-// What is kept of a channel's minute.
-fn read_at(store: &Store, channel: u32, minute: u32) -> Figures
-    ensures { λ r. ⌜ Reads (recallOf (now (store .entry)) channel minute) r ⌝ }
-{
-    match store::recall(store, channel, minute) {
-        Recalled::Missing => Figures::NotThere,
-        Recalled::Kept(r) => figures_of(r),
+        QuestionRefusal::MinuteTooLate => Refused::Plain(5),
+        QuestionRefusal::OutsideLimits => Refused::Plain(7),
+        QuestionRefusal::MissingReading(channel, minute) => Refused::OfReading(11, channel, minute),
+        QuestionRefusal::OutsideCertificate(minute) => Refused::OfMinute(12, minute),
+        QuestionRefusal::WetAboveDry => Refused::Plain(13),
+        QuestionRefusal::NoThreeHours => Refused::Plain(14),
+        QuestionRefusal::TooDry => Refused::Plain(15),
+        QuestionRefusal::NoStore => Refused::Plain(NO_STORE),
     }
 }
 
 // ---- pressure and tendency
 
-// The sea level pressure at a minute, of a reading and a wheelhouse temperature that are within their limits.
-fn worked(store: &Store, reading: Number, t: Number) -> AtMinute
-    requires { ⌜ PressureReady (held (now store)) (reading .v) (t .v) ⌝ }
-    ensures { λ r. ⌜ ((m : ℕ) → Works (held (now (store .entry))) m (reading .v) (t .v) r) ⌝ }
+// What the barometer shows at a minute, in its unit.
+fn barometer_at(store: &Store, minute: u32) -> Shown
+    ensures { λ r. ⌜ Shows (recallOf (now (store .entry)) 0 minute) r ⌝ }
 {
-    match pressure::sea_level_pressure(store, reading, WheelhouseTemperature(t.keep())) {
-        WorkedPressure::Given(p) => AtMinute::SeaLevel(p),
-        WorkedPressure::OutsideLimits => AtMinute::NotKept(0),
-        WorkedPressure::OutsideCertificate => AtMinute::Outside,
+    let Recalled::Kept(kept) = store::recall(store, 0, minute) else {
+        return Shown::Nothing;
+    };
+    match kept {
+        Reading::Hectopascals(p) => Shown::Shows(BarometerReading::Hectopascals(p)),
+        Reading::Millimetres(p) => Shown::Shows(BarometerReading::Millimetres(p)),
+        _ => Shown::Nothing,
     }
 }
 
@@ -163,12 +142,19 @@ fn worked(store: &Store, reading: Number, t: Number) -> AtMinute
 fn sea_level_at(store: &Store, minute: u32) -> AtMinute
     ensures { λ r. ⌜ TellsAt (held (now (store .entry))) minute r ⌝ }
 {
-    match read_at(store, 0, minute) {
-        Figures::NotThere => AtMinute::NotKept(0),
-        Figures::Both(reading, _) => match read_at(store, 1, minute) {
-            Figures::NotThere => AtMinute::NotKept(1),
-            Figures::Both(t, _) => worked(store, reading, t),
-        },
+    let Shown::Shows(reading) = barometer_at(store, minute) else {
+        return AtMinute::NotKept(0);
+    };
+    let Recalled::Kept(kept) = store::recall(store, 1, minute) else {
+        return AtMinute::NotKept(1);
+    };
+    let Reading::Wheelhouse(t) = kept else {
+        return AtMinute::NotKept(1);
+    };
+    match pressure::sea_level_pressure(store, reading, t) {
+        WorkedPressure::Given(p) => AtMinute::SeaLevel(p),
+        WorkedPressure::OutsideLimits => AtMinute::NotKept(0),
+        WorkedPressure::OutsideCertificate => AtMinute::Outside,
     }
 }
 
@@ -176,6 +162,9 @@ fn sea_level_at(store: &Store, minute: u32) -> AtMinute
 pub fn pressure(store: &Store, minute: u32) -> PressureAnswer
     ensures { λ r. ⌜ TellsOf asked.pressure (now (store .entry)) minute r × (now (store .exit) ≡ now (store .entry)) ⌝ }
 {
+    if !block::is_store(store) {
+        return PressureAnswer::Refused(QuestionRefusal::NoStore);
+    }
     if !Minute::holds(minute) {
         return PressureAnswer::Refused(QuestionRefusal::MinuteTooLate);
     }
@@ -194,13 +183,16 @@ pub fn pressure(store: &Store, minute: u32) -> PressureAnswer
 pub fn tendency(store: &Store, minute: u32) -> TendencyAnswer
     ensures { λ r. ⌜ TellsOf asked.tendency (now (store .entry)) minute r × (now (store .exit) ≡ now (store .entry)) ⌝ }
 {
+    if !block::is_store(store) {
+        return TendencyAnswer::Refused(QuestionRefusal::NoStore);
+    }
     if !Minute::holds(minute) {
         return TendencyAnswer::Refused(QuestionRefusal::MinuteTooLate);
     }
-    if minute < 180 {
+    if minute < Minute::THREE_HOURS {
         return TendencyAnswer::Refused(QuestionRefusal::NoThreeHours);
     }
-    let before = minute - 180;
+    let before = minute - Minute::THREE_HOURS;
     let earlier = sea_level_at(store, before);
     let later = sea_level_at(store, minute);
     if let AtMinute::NotKept(c) = earlier {
@@ -225,62 +217,64 @@ pub fn tendency(store: &Store, minute: u32) -> TendencyAnswer
 
 // ---- wind
 
-// A number that is not below 0.
-fn natural(n: Number) -> u32
-    requires { ⌜ natAbs (n .v) < 2 ^ 32 ⌝ }
-    ensures { λ r. ⌜ r ≡ natAbs (n .v) ⌝ }
+// The true wind.
+pub fn wind(store: &Store, minute: u32) -> WindAnswer
+    ensures { λ r. ⌜ TellsOf asked.wind (now (store .entry)) minute r × (now (store .exit) ≡ now (store .entry)) ⌝ }
 {
-    n.size() as u32
-}
-
-// The true wind of readings within their limits.
-fn blowing(course: Number, ship: Number, apparent: Number, from_bow: Number) -> WindAnswer
-    requires { ⌜ withinLimits (natAbs (course .v)) (natAbs (ship .v)) (natAbs (apparent .v)) (natAbs («from_bow» .v)) ≡ true ⌝ }
-    ensures { λ r. ⌜ Blowing (course .v) (ship .v) (apparent .v) («from_bow» .v) r ⌝ }
-{
-    match wind::true_wind(
-        Degrees(natural(course)),
-        Knots(natural(ship)),
-        MetresPerSecond(natural(apparent)),
-        Degrees(natural(from_bow)),
-    ) {
+    if !block::is_store(store) {
+        return WindAnswer::Refused(QuestionRefusal::NoStore);
+    }
+    if !Minute::holds(minute) {
+        return WindAnswer::Refused(QuestionRefusal::MinuteTooLate);
+    }
+    let Recalled::Kept(felt) = store::recall(store, 2, minute) else {
+        return WindAnswer::Refused(QuestionRefusal::MissingReading(2, Minute(minute)));
+    };
+    let Reading::ApparentWind(apparent, from_bow) = felt else {
+        return WindAnswer::Refused(QuestionRefusal::MissingReading(2, Minute(minute)));
+    };
+    let Recalled::Kept(moved) = store::recall(store, 3, minute) else {
+        return WindAnswer::Refused(QuestionRefusal::MissingReading(3, Minute(minute)));
+    };
+    let Reading::ShipMotion(ship, course) = moved else {
+        return WindAnswer::Refused(QuestionRefusal::MissingReading(3, Minute(minute)));
+    };
+    match wind::true_wind(course, ship, apparent, from_bow) {
         TrueWind::Blows(v, d) => WindAnswer::Given(v, d),
         TrueWind::OutsideLimits => WindAnswer::Refused(QuestionRefusal::OutsideLimits),
     }
 }
 
-// The true wind.
-pub fn wind(store: &Store, minute: u32) -> WindAnswer
-    ensures { λ r. ⌜ TellsOf asked.wind (now (store .entry)) minute r × (now (store .exit) ≡ now (store .entry)) ⌝ }
-{
-    if !Minute::holds(minute) {
-        return WindAnswer::Refused(QuestionRefusal::MinuteTooLate);
-    }
-    match read_at(store, 2, minute) {
-        Figures::NotThere => {
-            WindAnswer::Refused(QuestionRefusal::MissingReading(2, Minute(minute)))
-        }
-        Figures::Both(apparent, from_bow) => match read_at(store, 3, minute) {
-            Figures::NotThere => {
-                WindAnswer::Refused(QuestionRefusal::MissingReading(3, Minute(minute)))
-            }
-            Figures::Both(ship, course) => blowing(course, ship, apparent, from_bow),
-        },
-    }
-}
-
 // ---- humidity
 
-// The humidity of readings within their limits.
-fn moist(store: &Store, minute: u32, reading: Number, dry: Number, wet: Number) -> HumidityAnswer
-    requires { ⌜ HumidityReady (held (now store)) (reading .v) (dry .v) (wet .v) ⌝ }
-    ensures { λ r. ⌜ Moist (held (now (store .entry))) minute (reading .v) (dry .v) (wet .v) r ⌝ }
+// Vapour pressure, saturation, deficit, relative humidity and dew point.
+pub fn humidity(store: &Store, minute: u32) -> HumidityAnswer
+    ensures { λ r. ⌜ TellsOf asked.humidity (now (store .entry)) minute r × (now (store .exit) ≡ now (store .entry)) ⌝ }
 {
+    if !block::is_store(store) {
+        return HumidityAnswer::Refused(QuestionRefusal::NoStore);
+    }
+    if !Minute::holds(minute) {
+        return HumidityAnswer::Refused(QuestionRefusal::MinuteTooLate);
+    }
+    let Shown::Shows(reading) = barometer_at(store, minute) else {
+        return HumidityAnswer::Refused(QuestionRefusal::MissingReading(0, Minute(minute)));
+    };
+    let Recalled::Kept(in_air) = store::recall(store, 4, minute) else {
+        return HumidityAnswer::Refused(QuestionRefusal::MissingReading(4, Minute(minute)));
+    };
+    let Reading::DryBulb(dry) = in_air else {
+        return HumidityAnswer::Refused(QuestionRefusal::MissingReading(4, Minute(minute)));
+    };
+    let Recalled::Kept(in_water) = store::recall(store, 5, minute) else {
+        return HumidityAnswer::Refused(QuestionRefusal::MissingReading(5, Minute(minute)));
+    };
+    let Reading::WetBulb(wet) = in_water else {
+        return HumidityAnswer::Refused(QuestionRefusal::MissingReading(5, Minute(minute)));
+    };
     match pressure::station_pressure(store, reading) {
         WorkedPressure::Given(p) => {
-            let t = BulbTemperature(dry.keep());
-            let u = BulbTemperature(wet.keep());
-            match humidity::humidity(t, u, p, block::psychrometer(store)) {
+            match humidity::humidity(dry, wet, p, block::psychrometer(store)) {
                 Moisture::Given(h) => HumidityAnswer::Given(h),
                 Moisture::WetAboveDry => HumidityAnswer::Refused(QuestionRefusal::WetAboveDry),
                 Moisture::TooDry => HumidityAnswer::Refused(QuestionRefusal::TooDry),
@@ -291,30 +285,5 @@ fn moist(store: &Store, minute: u32, reading: Number, dry: Number, wet: Number) 
         WorkedPressure::OutsideCertificate => {
             HumidityAnswer::Refused(QuestionRefusal::OutsideCertificate(Minute(minute)))
         }
-    }
-}
-
-// Vapour pressure, saturation, deficit, relative humidity and dew point.
-pub fn humidity(store: &Store, minute: u32) -> HumidityAnswer
-    ensures { λ r. ⌜ TellsOf asked.humidity (now (store .entry)) minute r × (now (store .exit) ≡ now (store .entry)) ⌝ }
-{
-    if !Minute::holds(minute) {
-        return HumidityAnswer::Refused(QuestionRefusal::MinuteTooLate);
-    }
-    match read_at(store, 0, minute) {
-        Figures::NotThere => {
-            HumidityAnswer::Refused(QuestionRefusal::MissingReading(0, Minute(minute)))
-        }
-        Figures::Both(reading, _) => match read_at(store, 4, minute) {
-            Figures::NotThere => {
-                HumidityAnswer::Refused(QuestionRefusal::MissingReading(4, Minute(minute)))
-            }
-            Figures::Both(dry, _) => match read_at(store, 5, minute) {
-                Figures::NotThere => {
-                    HumidityAnswer::Refused(QuestionRefusal::MissingReading(5, Minute(minute)))
-                }
-                Figures::Both(wet, _) => moist(store, minute, reading, dry, wet),
-            },
-        },
     }
 }

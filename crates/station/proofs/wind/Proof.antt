@@ -1,115 +1,202 @@
--- `wind` meets its contract: the minute, both readings in turn, then the true wind. Assumes nothing.
-use mathlib.Core.Path.{_≡_, refl, sym, ap, subst}
-use mathlib.Core.Bool.{not}
+-- `wind` meets its contract: the store, the minute, both readings in turn, then the true wind, which refuses nothing. Assumes nothing.
+use mathlib.Core.Path.{_≡_, refl, sym, ap, subst, _∙_}
+use mathlib.Core.Bool.{true, false, not}
+use mathlib.Core.List.{List, [], _∷_}
 use Prim.Native.Nat.{ℕ}
+use native.Mathlib.Omega.{arith}
 use denote.Ref.{now}
-use lib.IntN.{ℤ, natAbs}
-use borrow.Author.Tests.{not-true, not-false}
-use Rattle.wind.specs.Answer.{withinLimits, IsWind}
-use Rattle.station.specs.Source.{held, first, second}
-use Rattle.station.specs.Parts.{Reads, Blowing}
-use Rattle.station.specs.declared.Figures.{Figures}
-use Rattle.station.specs.declared.Figures.the-variants.{NotThere, Both}
-use Rattle.station.proofs.AnswerLaws.{late, timely, pass, stop}
-use Rattle.station.proofs.WindLaws.{kept-within, blowing-of}
+use lib.Dec.{lit<}
+use Rattle.number.specs.Refusal.{Numbered, Test, Answer}
+use Rattle.message.specs.Receive.{entryOf}
+use Rattle.message.specs.declared.Reading.{Reading}
+use Rattle.message.specs.declared.Reading.the-variants.{ApparentWind, ShipMotion}
+use Rattle.cell.specs.Cells.{recalled}
+use Rattle.store.specs.Block.{recallOf}
+use Rattle.store.specs.History.{isPresent}
+use Rattle.wind.specs.Answer.{IsWind}
+use Rattle.wind.specs.declared.TrueWind.{TrueWind}
+use Rattle.wind.specs.declared.TrueWind.the-variants.{Blows, OutsideLimits}
+use Rattle.station.specs.Source.{held, inMetresPerSecond, inKnots, inDegrees}
+use Rattle.station.specs.Questions.{Answers, noStore, tooLate, missingAt, WindRule}
+use Rattle.station.proofs.AnswerLaws.{no-store, too-late, both-pass, pass, stop, end}
+use Rattle.station.proofs.KeptLaws.{not-kept, is-kept, no-other}
+use Rattle.station.proofs.WindLaws.{kept-within, wind-of}
 use borrow.Author.Needs.{needs}
 use Rattle.station.proofs.wind.Statement.{statement}
 use Rattle.station.proofs.wind.Tie as tie
+use Rattle.block.proofs.is_store.Reads as is-store-reads
 use Rattle.quantity.proofs.Minute.holds.Reads as holds-reads
-use Rattle.station.proofs.blowing.Reads as blowing-reads
-use Rattle.station.proofs.read_at.Reads as read-at-reads
+use Rattle.store.proofs.recall.Reads as recall-reads
+use Rattle.wind.proofs.true_wind.Reads as true-wind-reads
 
--- both readings, as they were found
-apparent-is : (c : tie.After-read-at) (r : Figures) → c .read-at .result ≡ r → let a = c .before .before .before .args in Reads (held (now (a .store)) .recall 2 (a .minute)) r
-apparent-is c r e = let a = c .before .before .before .args in subst (Reads (held (now (a .store)) .recall 2 (a .minute))) e (c .read-at .ensures)
+never : {A : Type 0} → false ≡ true → A
+never e = let z : _≡_ {A = ℕ} 0 1 = cc in absurd (omega arith)
 
-ship-is : (c : tie.After-read-at2) (r : Figures) → c .read-at2 .result ≡ r → let a = c .before .before .before .before .before .before .before .args in Reads (held (now (a .store)) .recall 3 (a .minute)) r
-ship-is c r e = let a = c .before .before .before .before .before .before .before .args in subst (Reads (held (now (a .store)) .recall 3 (a .minute))) e (c .read-at2 .ensures)
+-- the store is one, and the minute may be asked
+module _ (c : tie.Else2) where
+  abbrev s : List ℕ
+  s = now (c .before .before .before .before .args .store)
+
+  abbrev m : ℕ
+  m = c .before .before .before .before .args .minute
+
+  front : (rest : List (Test Numbered)) (a : Answer Numbered TrueWind)
+      → Answers rest (WindRule (held s) m) a → Answers (noStore s ∷ tooLate m ∷ rest) (WindRule (held s) m) a
+  front rest a =
+      both-pass s m (WindRule (held s) m) rest (c .before .before .before .is-store .ensures) (c .before .holds .ensures) (c .before .before .if1 .left) (c .if2 .left) a
+
+-- both readings, as they are kept
+felt-is : (c : tie.After-felt2) → let at = c .before .before .before .before .before .before in
+    recallOf (s at) 2 (m at) ≡ recalled (entryOf (m at) (ApparentWind (c .felt2 .given .0 .0) (c .felt2 .given .0 .1 .0)))
+felt-is c =
+    let k = c .before .before .before in
+    let at = k .before .before .before in
+    is-kept (s at) 2 (m at) (k .before .before .recall .ensures) (k .felt .given .1) ∙ ap (λ (x : Reading). recalled (entryOf (m at) x)) (c .felt2 .given .1)
+
+moved-is : (c : tie.After-moved2) → let at = c .before .before .before .before .before .before .before .before .before .before .before .before .before in
+    recallOf (s at) 3 (m at) ≡ recalled (entryOf (m at) (ShipMotion (c .moved2 .given .0 .0) (c .moved2 .given .0 .1 .0)))
+moved-is c =
+    let k = c .before .before .before in
+    let at = k .before .before .before .before .before .before .before .before .before .before in
+    is-kept (s at) 3 (m at) (k .before .before .recall2 .ensures) (k .moved .given .1) ∙ ap (λ (x : Reading). recalled (entryOf (m at) x)) (c .moved2 .given .1)
+
+-- the wind of both
+module _ (c : tie.After-true-wind) where
+  abbrev moved : tie.After-moved2
+  moved = c .before .before
+
+  abbrev felt : tie.After-felt2
+  felt = moved .before .before .before .before .before .before .before
+
+  abbrev at : tie.Else2
+  at = felt .before .before .before .before .before .before
+
+  found : (w : TrueWind) → c .true-wind .result ≡ w → WindRule (held (s at)) (m at) w
+  found w e =
+      let x = felt-is felt in
+      let y = moved-is moved in
+      wind-of w (sym (ap inDegrees y)) (sym (ap inKnots y)) (sym (ap inMetresPerSecond x)) (sym (ap inDegrees x))
+      (subst (IsWind (moved .moved2 .given .0 .1 .0 .0) (moved .moved2 .given .0 .0 .0) (felt .felt2 .given .0 .0 .0) (felt .felt2 .given .0 .1 .0 .0)) e (c .true-wind .ensures))
+
+  both-there : (rest : List (Test Numbered)) (a : Answer Numbered TrueWind) → Answers rest (WindRule (held (s at)) (m at)) a
+      → Answers (noStore (s at) ∷ tooLate (m at) ∷ missingAt (held (s at)) (m at) 2 ∷ missingAt (held (s at)) (m at) 3 ∷ rest) (WindRule (held (s at)) (m at)) a
+  both-there rest a w = front at _ a (pass _ _ _ a (ap not (ap isPresent (felt-is felt))) (pass _ _ _ a (ap not (ap isPresent (moved-is moved))) w))
+
+is-store-requires : tie.Need-is-store-requires
+is-store-requires c κs = search needs
+
+returns : tie.Need-returns
+returns c = let a = c .before .before .args in (λ table tabled. no-store (now (a .store)) (a .minute) _ _ (c .before .is-store .ensures) (c .if1 .taken), refl)
 
 holds-requires : tie.Need-holds-requires
 holds-requires c κs = search needs
 
-returns : tie.Need-returns
-returns c = (λ table tabled. stop _ _ _ (late (c .before .before .args .minute) _ (c .before .holds .ensures) (not-true _ (c .if1 .taken))), refl)
+returns-2 : tie.Need-returns-2
+returns-2 c =
+    let one = c .before .before in
+    let a = one .before .before .args in
+    (λ table tabled. too-late (now (a .store)) (a .minute) _ _ (one .before .is-store .ensures) (c .before .holds .ensures) (one .if1 .left) (c .if2 .taken), refl)
 
-read-at-requires : tie.Need-read-at-requires
-read-at-requires c κs = search needs
+recall-requires : tie.Need-recall-requires
+recall-requires c κs = search needs
+
+enum-known-felt : tie.Need-enum-known-felt
+enum-known-felt c = search needs
 
 enum-told : tie.Need-enum-told
 enum-told c = search needs
 
-enum-known-apparent : tie.Need-enum-known-apparent
-enum-known-apparent c = search needs
+returns-3 : tie.Need-returns-3
+returns-3 c = (
+  λ table tabled.
+      let at = c .before .before .before in
+      front at _ _ (stop _ _ _ (ap not (not-kept (s at) 2 (m at) (c .before .before .recall .ensures) (c .enum-told .given .1)))),
+  refl,
+)
 
-read-at-requires-2 : tie.Need-read-at-requires-2
-read-at-requires-2 c κs = search needs
+enum-known-felt-2 : tie.Need-enum-known-felt-2
+enum-known-felt-2 c = search needs
+
+returns-4 : tie.Need-returns-4
+returns-4 c =
+    let k = c .before .before in
+    let at = k .before .before .before in
+    no-other (s at) 2 (m at) (k .before .before .recall .ensures) (k .felt .given .0 .0) (lit< tt) (k .felt .given .1) (0 ∷ 1 ∷ 2 ∷ 4 ∷ 5 ∷ 6 ∷ []) refl (c .match2 .keys2)
+
+recall-requires-2 : tie.Need-recall-requires-2
+recall-requires-2 c κs = search needs
+
+enum-known-moved : tie.Need-enum-known-moved
+enum-known-moved c = search needs
 
 enum-told-2 : tie.Need-enum-told-2
 enum-told-2 c = search needs
 
-enum-known-ship : tie.Need-enum-known-ship
-enum-known-ship c = search needs
+returns-5 : tie.Need-returns-5
+returns-5 c = (
+  λ table tabled.
+      let felt = c .before .before .before .before in
+      let at = felt .before .before .before .before .before .before in
+      front at _ _
+      (pass _ _ _ _ (ap not (ap isPresent (felt-is felt)))
+      (stop _ _ _ (ap not (not-kept (s at) 3 (m at) (c .before .before .recall2 .ensures) (c .enum-told2 .given .1))))),
+  refl,
+)
 
-blowing-requires : tie.Need-blowing-requires
-blowing-requires c κs =
-    let two = c .before .before .before in
-    let found = two .before .before .apparent .given in
-    let moved = c .before .ship .given in
-    let at = two .before .before .before .before in
-    let a = at .before .before .before .args in
-    let x = apparent-is at (Both (found .0 .0) (found .0 .1 .0)) (found .1) in
-    let y = ship-is two (Both (moved .0 .0) (moved .0 .1 .0)) (moved .1) in
-    rw (y .2, y .1, x .1, x .2) (kept-within (now (a .store)) (a .minute) (x .0) (y .0))
+enum-known-moved-2 : tie.Need-enum-known-moved-2
+enum-known-moved-2 c = search needs
 
-returns-2 : tie.Need-returns-2
-returns-2 c =
-    (λ table tabled.
-    let at = c .before .before in
-    pass _ _ _ _ (timely (at .before .before .before .args .minute) _ (at .before .before .holds .ensures) (not-false _ (at .before .if1 .left)))
-    (stop _ _ _ (ap not (apparent-is at NotThere (c .enum-told .given .1)))),
-    refl)
+returns-6 : tie.Need-returns-6
+returns-6 c =
+    let k = c .before .before in
+    let at = k .before .before .before .before .before .before .before .before .before .before in
+    no-other (s at) 3 (m at) (k .before .before .recall2 .ensures) (k .moved .given .0 .0) (lit< tt) (k .moved .given .1) (0 ∷ 1 ∷ 2 ∷ 3 ∷ 5 ∷ 6 ∷ []) refl (c .match4 .keys2)
 
-returns-3 : tie.Need-returns-3
-returns-3 c =
-    (λ table tabled.
-    let two = c .before .before in
-    let found = two .before .before .apparent .given in
-    let at = two .before .before .before .before in
-    pass _ _ _ _ (timely (at .before .before .before .args .minute) _ (at .before .before .holds .ensures) (not-false _ (at .before .if1 .left)))
-    (pass _ _ _ _ (ap not (apparent-is at (Both (found .0 .0) (found .0 .1 .0)) (found .1) .0))
-    (stop _ _ _ (ap not (ship-is two NotThere (c .enum-told2 .given .1))))),
-    refl)
+true-wind-requires : tie.Need-true-wind-requires
+true-wind-requires c κs = search needs
 
-returns-4 : tie.Need-returns-4
-returns-4 c =
-    (λ table tabled.
-    let two = c .before .before .before .before in
-    let found = two .before .before .apparent .given in
-    let moved = c .before .before .ship .given in
-    let at = two .before .before .before .before in
-    let a = at .before .before .before .args in
-    let S = held (now (a .store)) in
-    let x = apparent-is at (Both (found .0 .0) (found .0 .1 .0)) (found .1) in
-    let y = ship-is two (Both (moved .0 .0) (moved .0 .1 .0)) (moved .1) in
-    pass _ _ _ _ (timely (at .before .before .before .args .minute) _ (at .before .before .holds .ensures) (not-false _ (at .before .if1 .left)))
-    (pass _ _ _ _ (ap not (x .0))
-    (pass _ _ _ _ (ap not (y .0))
-    (blowing-of (c .blowing .result) (y .2) (y .1) (x .1) (x .2) (c .blowing .ensures)))),
-    refl)
+enum-known-v : tie.Need-enum-known-v
+enum-known-v c = search needs
+
+enum-told-3 : tie.Need-enum-told-3
+enum-told-3 c = search needs
+
+returns-7 : tie.Need-returns-7
+returns-7 c = (
+  λ table tabled.
+      let v = c .before .v .given in
+      let w = c .before .before .before in
+      both-there w _ _ (end _ _ (found w (Blows (v .0 .0) (v .0 .1 .0)) (v .1))),
+  refl,
+)
+
+returns-8 : tie.Need-returns-8
+returns-8 c =
+    let w = c .before .before in
+    never (sym (found w OutsideLimits (c .enum-told3 .given .1)) ∙ kept-within (s (at w)) (m (at w)) (ap isPresent (felt-is (felt w))) (ap isPresent (moved-is (moved w))))
 
 pub wind-spec : {M : Type 1} → statement M
 wind-spec =
     tie.close
     (tie.spec
-    holds-requires
+    is-store-requires
     returns
-    read-at-requires
-    enum-told
-    enum-known-apparent
-    read-at-requires-2
-    enum-told-2
-    enum-known-ship
-    blowing-requires
+    holds-requires
     returns-2
+    recall-requires
+    enum-known-felt
+    enum-told
     returns-3
-    returns-4)
+    enum-known-felt-2
+    returns-4
+    recall-requires-2
+    enum-known-moved
+    enum-told-2
+    returns-5
+    enum-known-moved-2
+    returns-6
+    true-wind-requires
+    enum-known-v
+    enum-told-3
+    returns-7
+    returns-8)
