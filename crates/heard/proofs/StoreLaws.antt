@@ -27,7 +27,7 @@ use Rattle.pressure.specs.Pressure.{Barometer, barometerIn, barometerOf}
 use Rattle.pressure.proofs.OrderLaws.{never}
 use Rattle.pressure.proofs.PressureTheorems.{Alike, opened-alike, station-recorded}
 use Rattle.station.specs.Source.{heard, held, readingAt}
-use Rattle.station.specs.Questions.{Asked, question, Reply, isIn, AnsweredBy, Tells, TellsOf, noStore, tooLate, missingAt, outsideAt, stationAt, HumidityRule, humidityTests, foreign}
+use Rattle.station.specs.Questions.{Asked, question, Reply, isIn, AnsweredBy, Tells, TellsOf, noStore, tooLate, missingAt, outsideAt, stationAt, HumidityRule, humidityTests, foreign, foreignTo}
 use Rattle.station.specs.Questions as asked
 use Rattle.station.specs.Told.{humidityAs}
 use Rattle.station.specs.declared.HumidityAnswer.{HumidityAnswer}
@@ -155,7 +155,7 @@ module _ (g : Settings) (good : checked g ≡ given tt) where
 
       -- it is a store, so the first test does not refuse
       of-store : (q : Asked) (r : Reply q) → TellsOf q (store-of g M) m r
-          → AnsweredBy q [] (question q .foreign (held (store-of g M)) m) (held (store-of g M)) m r
+          → AnsweredBy q [] (foreignTo q (held (store-of g M)) m) (held (store-of g M)) m r
       of-store q r w table tabled =
           let Rule = question q .Rule (held (store-of g M)) m in
           carry (noStore (store-of g M) ∷ _) _ Rule Rule (question q .told r)
@@ -177,7 +177,7 @@ module _ (g : Settings) (good : checked g ≡ given tt) where
           (λ h x. x)
           (w table tabled)
 
-      as-told : (q : Asked) (r : Reply q) → AnsweredBy q [] (question q .foreign (held (store-of g M)) m) (held (store-of g M)) m r
+      as-told : (q : Asked) (r : Reply q) → AnsweredBy q [] (foreignTo q (held (store-of g M)) m) (held (store-of g M)) m r
           → Tells q (held (store-of g M)) m r
       as-told asked.pressure r w = w
       as-told asked.tendency r w = w

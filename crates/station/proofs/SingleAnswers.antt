@@ -21,7 +21,7 @@ use Rattle.wind.proofs.WindTheorems.{single-wind}
 use Rattle.humidity.specs.declared.HumidityFigures.{HumidityFigures}
 use Rattle.humidity.proofs.SingleAnswers.{one-humidity}
 use Rattle.station.specs.Source.{Source, held, inMetresPerSecond, inKnots, inDegrees}
-use Rattle.station.specs.Questions.{Asked, question, Reply, AnsweredBy, TellsOf, noStore, TendencyRule, dryAt, wetAt, stationAt}
+use Rattle.station.specs.Questions.{Asked, question, Reply, AnsweredBy, TellsOf, noStore, foreignTo, TendencyRule, dryAt, wetAt, stationAt}
 use Rattle.station.specs.Questions as asked
 use Rattle.station.specs.Told.{Change, refusalOf, numberedAs, pressureAs, tendencyAs, windAs, humidityAs}
 use Rattle.station.specs.declared.QuestionRefusal.{QuestionRefusal}
@@ -196,7 +196,7 @@ one-reply q before more S m r r′ v w =
     ∙ answer-back q r′
 
 one-of : (q : Asked) (s : List ℕ) (m : ℕ) (r r′ : Reply q) → TellsOf q s m r → TellsOf q s m r′ → r ≡ r′
-one-of q s m = one-reply q (noStore s ∷ []) (question q .foreign (held s) m) (held s) m
+one-of q s m = one-reply q (noStore s ∷ []) (foreignTo q (held s) m) (held s) m
 
 pub single-pressure : Single pressure.Post
 single-pressure κs a r r′ s s′ p q = one-of asked.pressure (now (a .0)) (a .1 .0) r r′ (p .0) (q .0)

@@ -129,18 +129,21 @@ foreign S m = test 7 [] (not (inside recordedPressure (stationAt S m) && inside 
 pub data Asked : Type 0 where
   pressure tendency wind humidity : Asked
 
--- What a question's function returns, and the figures that it tells; the tests in their order, with a table of saturation and with
--- tests that document 01 does not have; what those are of a block; the rule of the figures; and, "Which channels feed what", the
--- channels, and the minutes of them that are read where it is asked at one: none where it is refused 5 or 14.
+-- What a question's function returns, and the figures that it tells; the tests in their order, with more that document 01 does not
+-- have, and with a table of saturation; the rule of the figures; and, "Which channels feed what", the channels, and the minutes of
+-- them that it reads where it is asked at one: none where it is refused 5 or 14.
 pub record Question : Type 1 where
   pub Reply : Type 0
   pub Figures : Type 0
   pub told : Reply → Answer Numbered Figures
   pub tests : List (Test Numbered) → (ℤ → ℕ) → Source → ℕ → List (Test Numbered)
-  pub foreign : Source → ℕ → List (Test Numbered)
   pub Rule : Source → ℕ → Figures → Type 0
   pub channels : List ℕ
   pub minutes : ℕ → List ℕ
+
+-- the minute itself
+abbrev pub its : ℕ → List ℕ
+its m = cond (tooLate m .holds) [] (m ∷ [])
 
 abbrev pub question : Asked → Question
 question pressure =
@@ -149,10 +152,9 @@ question pressure =
       Figures = ℤ;
       told = pressureAs;
       tests = λ more table. pressureTests;
-      foreign = λ S m. [];
       Rule = PressureRule;
       channels = 0 ∷ 1 ∷ [];
-      minutes = λ m. cond (tooLate m .holds) [] (m ∷ []);
+      minutes = its;
     }
 question tendency =
     record {
@@ -160,7 +162,6 @@ question tendency =
       Figures = Change;
       told = tendencyAs;
       tests = λ more table. tendencyTests;
-      foreign = λ S m. [];
       Rule = λ S m t. TendencyRule S m t;
       channels = 0 ∷ 1 ∷ [];
       minutes = λ m. cond (tooLate m .holds || noThreeHours m .holds) [] (m ∷ (m - threeHours) ∷ []);
@@ -171,10 +172,9 @@ question wind =
       Figures = TrueWind;
       told = windAs;
       tests = λ more table. windTests;
-      foreign = λ S m. [];
       Rule = WindRule;
       channels = 2 ∷ 3 ∷ [];
-      minutes = λ m. cond (tooLate m .holds) [] (m ∷ []);
+      minutes = its;
     }
 question humidity =
     record {
@@ -182,10 +182,9 @@ question humidity =
       Figures = HumidityFigures;
       told = humidityAs;
       tests = humidityTests;
-      foreign = foreign;
       Rule = HumidityRule;
       channels = 0 ∷ 4 ∷ 5 ∷ [];
-      minutes = λ m. cond (tooLate m .holds) [] (m ∷ []);
+      minutes = its;
     }
 
 abbrev pub isIn : List ℕ → ℕ → Bool
@@ -208,6 +207,13 @@ AnsweredBy q before more S m r =
 abbrev pub Tells : (q : Asked) → Source → ℕ → Reply q → Type 0
 Tells q S m r = AnsweredBy q [] [] S m r
 
+-- Among the tests of a block there is one more for humidity.
+abbrev pub foreignTo : Asked → Source → ℕ → List (Test Numbered)
+foreignTo pressure S m = []
+foreignTo tendency S m = []
+foreignTo wind S m = []
+foreignTo humidity S m = foreign S m
+
 -- What each function promises of the block that it is asked, whatever that holds: whether it is a store is tested first.
 abbrev pub TellsOf : (q : Asked) → List ℕ → ℕ → Reply q → Type 0
-TellsOf q s m r = AnsweredBy q (noStore s ∷ []) (question q .foreign (held s) m) (held s) m r
+TellsOf q s m r = AnsweredBy q (noStore s ∷ []) (foreignTo q (held s) m) (held s) m r
