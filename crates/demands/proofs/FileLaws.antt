@@ -1,13 +1,15 @@
 -- What the contracts of the reader and the writer say of calls, and both round trips over what they hand back and leave. Assumes nothing.
 use mathlib.Core.Path.{_≡_, refl, sym, ap, subst, _∙_}
-use mathlib.Core.List.{List, _++_}
+use mathlib.Core.Bool.{Bool, true, false, cond}
+use mathlib.Core.List.{List, [], _∷_, _++_}
 use Prim.Native.Nat.{ℕ, _≤_}
 use native.Mathlib.Omega.{arith}
 use denote.Ref.{now}
+use lib.Dec.{ltb}
 use lib.IntN.{ℤ}
 use lib.ListN.{length, take, drop, length-take}
 use lib.Seq.{take-append-seam}
-use Rattle.number.specs.Refusal.{Numbered, Answer, refused, given}
+use Rattle.number.specs.Refusal.{Numbered, numbered, Answer, refused, given, answer}
 use Rattle.bytes.specs.Bytes.{AreBytes}
 use Rattle.watchfile.specs.Format.{DewRule, reading, writing}
 use Rattle.watchfile.specs.declared.Record.{Record}
@@ -22,7 +24,10 @@ use Rattle.writer.specs.declared.Written.{Written}
 use Rattle.writer.specs.declared.Written.the-variants.{Done, BreaksRules, TooShort}
 use Rattle.writer.proofs.RoundTrips.{read-then-written, written-then-read}
 use Rattle.writer.proofs.SingleAnswers.{case-of, case-back}
-use Rattle.demands.specs.Working.{ReadsFile, WritesFile}
+use Rattle.listing.specs.Listing.{listingOf, listing, Lists}
+use Rattle.listing.specs.declared.Listed.{Listed}
+use Rattle.listing.specs.declared.Listed.the-variants.{Text}
+use Rattle.demands.specs.Working.{ReadsFile, WritesFile, ListsFile}
 
 -- ---- single calls
 
@@ -40,6 +45,15 @@ write-is all count before x after w rule ruled =
     (subst (λ (n : ℕ). Wrote rule all n before (w .3 .0 .now) (w .2)) (which .2)
     (subst (λ (rs : List Record). Wrote rule rs (w .1 .1 .1 .0) before (w .3 .0 .now) (w .2)) (which .1)
     (subst (λ (b : List ℕ). Wrote rule (w .1 .1 .0) (w .1 .1 .1 .0) b (w .3 .0 .now) (w .2)) (which .0) (w .4 rule ruled)))))
+
+pub list-is : (s before : List ℕ) (l : Listed) (after : List ℕ) → ListsFile s before l after
+    → (rule : ℕ → ℤ) → DewRule rule → Lists (listingOf (reading rule s)) before after l
+list-is s before l after w rule ruled =
+    let which = w .5 in
+    subst (λ (b : List ℕ). Lists (listingOf (reading rule s)) before b l) (which .3)
+    (subst (λ (y : Listed). Lists (listingOf (reading rule s)) before (w .3 .1 .0 .now) y) (which .2)
+    (subst (λ (b : List ℕ). Lists (listingOf (reading rule s)) b (w .3 .1 .0 .now) (w .2)) (which .1)
+    (subst (λ (f : List ℕ). Lists (listingOf (reading rule f)) (now (w .1 .1 .0)) (w .3 .1 .0 .now) (w .2)) (which .0) (w .4 rule ruled))))
 
 -- ---- what they come to
 
@@ -69,6 +83,15 @@ left (given file) before size e = record { file = file; is = refl; many = cc }
 
 pub done : (x : Written) (n : ℕ) → writtenAs x ≡ given n → x ≡ Done n
 done x n e = sym (case-back x) ∙ ap case-of e ∙ case-back (Done n)
+
+-- a listing that has room is the text
+given-text : (text : List ℕ) (room : ℕ) (file : List ℕ) → listing text room ≡ given file → file ≡ text
+unfolding listing answer
+given-text text room file e = go (ltb room (length text)) e
+  where
+    go : (b : Bool) → cond b (refused (numbered 17 (length text ∷ []))) (given text) ≡ given file → file ≡ text
+    go true e = absurd (let z : _≡_ {A = ℕ} 0 1 = cc in omega arith)
+    go false e = cc
 
 -- ---- "A good watch file read and written again has the same bytes"
 
@@ -101,4 +124,19 @@ records-again all count before after size enough w x r =
     (
       verdict-by (x .verdict) (Good count) (h .verdict ∙ ap given many),
       ap (λ (n : ℕ). take n (x .records)) (sym many) ∙ ap (take (length (take count all))) (h .records) ∙ take-append-seam (take count all) _,
+    )
+
+-- ---- listings
+
+pub listed-as : (rule : ℕ → ℤ) → DewRule rule → (s before after : List ℕ) (size : ℕ) → ListsFile s before (Text size) after
+    → (size ≡ length (listingOf (reading rule s))) × (after ≡ listingOf (reading rule s) ++ drop size before)
+listed-as rule ruled s before after size w =
+    let text = listingOf (reading rule s) in
+    let h = list-is s before (Text size) after w rule ruled in
+    let l = left (listing text (length before)) before size (h .answer) in
+    let is : l .file ≡ text = given-text text (length before) (l .file) (l .is) in
+    (
+      l .many ∙ ap length is,
+      h .bytes ∙ ap (leftBy before) (l .is) ∙ ap (λ (f : List ℕ). f ++ drop (length (l .file)) before) is
+      ∙ ap (λ (n : ℕ). text ++ drop n before) (sym (l .many)),
     )

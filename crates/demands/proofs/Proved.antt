@@ -18,10 +18,10 @@ use Rattle.settings.specs.declared.Checked.{Checked}
 use Rattle.settings.specs.declared.Checked.the-variants as opening
 use Rattle.settings.proofs.SingleAnswers.{case-of, case-back}
 use Rattle.wire.specs.declared.MessageRefusal.the-variants.{NotSixteenBytes, NoSuchChannel, ByteNotZero, WetBulbNotWater, MinuteTooLate, NotFinite, OutsideLimits}
-use Rattle.store.specs.Block.{openedBy, hearing, hearTests, entryOfBytes, heardAs, heardBy, outcome}
+use Rattle.store.specs.Block.{openedBy, unopened, hearing, hearTests, entryOfBytes, heardAs, heardBy, outcome}
 use Rattle.store.specs.History.{store-of}
 use Rattle.store.specs.declared.Hearing.{Hearing}
-use Rattle.store.specs.declared.Hearing.the-variants.{Heard, Refused, NotLater}
+use Rattle.store.specs.declared.Hearing.the-variants.{Heard, Refused, NotLater, NoStore}
 use Rattle.store.proofs.StoreTheorems.{refused-changes-nothing}
 use Rattle.station.specs.Source.{heard}
 use Rattle.station.specs.Questions.{Asked, question, Reply, Tells}
@@ -31,17 +31,22 @@ use Rattle.heard.proofs.RefusalsInOrder.{question-refused, message-by-messages}
 use Rattle.heard.proofs.FedLaws.{same-fed, fed-again}
 use Rattle.heard.proofs.ReplacedLaws.{same-replaced}
 use Rattle.heard.proofs.SettingsAlike.{same-store}
-use Rattle.watchfile.specs.Format.{DewRule, writing, writeTests}
+use Rattle.watchfile.specs.Format.{DewRule, reading, writing, writeTests}
 use Rattle.watchfile.specs.declared.Record.{Record}
 use Rattle.watchfile.proofs.DewRules.{the-rule}
 use Rattle.writer.specs.Write.{Wrote, writtenAs, sized}
 use Rattle.writer.specs.declared.Written.{Written}
 use Rattle.writer.proofs.RefusalsInOrder.{writes-in-order}
 use Rattle.writer.proofs.WriteTheorems.{refused-leaves-every-byte}
-use Rattle.demands.specs.Working.{Opens, Hears, Working, Replies, WritesFile}
+use Rattle.reader.proofs.RefusalsInOrder.{read-refused}
+use Rattle.listing.specs.Listing.{listingOf, listing, listTests, listedAs}
+use Rattle.listing.specs.declared.Listed.{Listed}
+use Rattle.listing.proofs.RefusalsInOrder.{lists-in-order}
+use Rattle.listing.proofs.ListTheorems as listed
+use Rattle.demands.specs.Working.{Opens, Hears, Working, Replies, WritesFile, ListsFile}
 use Rattle.demands.specs.Demands.{Demand1, Demand2, Demand3}
 use Rattle.demands.proofs.WorkingLaws.{open-answer, open-block, hear-answer, hear-block, asks-told, asks-leaves, good, block, replies, replies-on}
-use Rattle.demands.proofs.FileLaws.{write-is, file-again, records-again}
+use Rattle.demands.proofs.FileLaws.{read-is, write-is, list-is, file-again, records-again, listed-as}
 use Rattle.demands.proofs.EnteredAnswers.{recorded}
 use Rattle.demands.proofs.MissingLaws.{missing, recall-missing, answer-missing}
 
@@ -79,6 +84,14 @@ by-records dew ruled all count before after w v n =
     let h = write-is all count before w after v dew ruled in
     (λ e. law .0 (sized-back (writing dew all count (length before)) n (sym (h .answer) ∙ e)), λ f. h .answer ∙ ap sized (law .1 f))
 
+by-listing : (dew : ℕ → ℤ) → DewRule dew → (s before after : List ℕ) (l : Listed) → ListsFile s before l after
+    → (n : Numbered) → (listedAs l ≡ refused n) ↔ First (listTests (listingOf (reading dew s)) (length before)) n
+by-listing dew ruled s before after l v n =
+    let text = listingOf (reading dew s) in
+    let law = lists-in-order text (length before) n in
+    let h = list-is s before l after v dew ruled in
+    (λ e. law .0 (sized-back (listing text (length before)) n (sym (h .answer) ∙ e)), λ f. h .answer ∙ ap sized (law .1 f))
+
 -- settings that no test refuses are good
 opens : (b : List ℕ) (g : Settings) (c : Checked) (b′ : List ℕ) → Opens b g c b′ → ((n : ℕ) → Holds (settings.tests g) n → ⊥) → Working g [] b′
 unfolding checked Working
@@ -112,9 +125,9 @@ lent s = record { ptr = (0, 0); name = 0; now = s }
 goes-on : (b m : List ℕ) → (h : Hearing) × (b′ : List ℕ) × Hears b m h b′
 unfolding hearing lent
 goes-on b m =
-    let a = some-answer (hearTests b m)
-        ((Refused NotSixteenBytes, refl), ((Refused NoSuchChannel, refl), ((Refused ByteNotZero, refl), ((Refused WetBulbNotWater, refl),
-        ((Refused MinuteTooLate, refl), ((Refused NotFinite, refl), ((Refused OutsideLimits, refl), ((NotLater, refl), tt))))))))
+    let a = some-answer (unopened b ∷ hearTests b m)
+        ((NoStore, refl), ((Refused NotSixteenBytes, refl), ((Refused NoSuchChannel, refl), ((Refused ByteNotZero, refl), ((Refused WetBulbNotWater, refl),
+        ((Refused MinuteTooLate, refl), ((Refused NotFinite, refl), ((Refused OutsideLimits, refl), ((NotLater, refl), tt)))))))))
         (entryOfBytes b m) in
     (a .0, heardBy b m,
     (([], ([], tt)), (lent b, (lent m, tt)), a .0, (at-last (lent b) (heardBy b m), (lent m, tt)), record { answer = a .1; block = refl }, (refl, refl, refl, refl)))
@@ -127,6 +140,8 @@ demand-1 =
       asked = λ q g M m x w table tabled n.
           question-refused (question q .tests [] table (heard g M) m) (question q .Rule (heard g M) m) (question q .told x) (replies q g M m x w table tabled) n;
       write = by-records;
+      file = λ dew ruled s x w place. read-refused dew s x (read-is s x w dew ruled) place;
+      listing = by-listing;
       opens = opens;
       goes-on = λ g M b w m. goes-on b m;
       refused-opening = λ b g c b′ n w e. open-block b g c b′ w ∙ opening-leaves b g n (sym (open-answer b g c b′ w) ∙ e);
@@ -135,6 +150,8 @@ demand-1 =
       refused-question = λ q b m x b′ n w e. asks-leaves q b m x b′ w;
       refused-write = λ all count before after w n v e.
           refused-leaves-every-byte (the-rule .0) all count before after w n (write-is all count before w after v (the-rule .0) (the-rule .1)) e;
+      refused-listing = λ s before after l n w e.
+          listed.refused-leaves-every-byte (listingOf (reading (the-rule .0) s)) before after l n (list-is s before l after w (the-rule .0) (the-rule .1)) e;
     }
 
 -- ---- 2
@@ -146,6 +163,7 @@ demand-2 =
       recorded = λ q g M m x w e v f is. recorded g (good g M (w .block) (w .working)) M m q x (replies q g M m x w) e v f is;
       file-again = file-again;
       records-again = records-again;
+      listed = listed-as;
     }
 
 -- ---- 3

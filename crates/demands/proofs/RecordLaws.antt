@@ -24,7 +24,7 @@ use Rattle.wind.specs.declared.TrueWind.the-variants.{Blows}
 use Rattle.humidity.specs.Humidity.{vapourPressure, wetAboveDry, tooDry, withinLimits, IsHumidity, IsMoisture}
 use Rattle.humidity.specs.declared.HumidityFigures.{HumidityFigures}
 use Rattle.humidity.specs.declared.Moisture.the-variants as moisture
-use Rattle.station.specs.Source.{Source, heard, first}
+use Rattle.station.specs.Source.{Source, heard, inCelsius, readingAt}
 use Rattle.station.specs.Questions.{Answers, seaLevelAt, pressureTests, PressureRule, tendencyTests, TendencyRule, windTests, WindRule, humidityTests, HumidityRule, dryAt, wetAt, stationAt}
 use Rattle.station.specs.Told.{Change}
 use Rattle.station.proofs.AnswerLaws.{passed, ruled}
@@ -53,8 +53,8 @@ module _ (g : Settings) (good : checked g ≡ given tt) (M : List (List ℕ)) (m
   -- an answer's minute may be asked, and it is worked from readings within their limits
   record ReadFor (p : ℤ) : Type 0 where
     pub in-time : ltb lastMinute m ≡ false
-    pub in-pressure : inside (pressureLimits (g .unit)) (first (S .recall 0 m)) ≡ true
-    pub in-warmth : inside wheelhouse (first (S .recall 1 m)) ≡ true
+    pub in-pressure : inside (pressureLimits (g .unit)) (readingAt S m) ≡ true
+    pub in-warmth : inside wheelhouse (inCelsius (S .recall 1 m)) ≡ true
     pub is : p ≡ seaLevelAt S m
 
   pressure-read : (p : ℤ) → Answers (pressureTests S m) (PressureRule S m) (given p) → ReadFor p
@@ -75,12 +75,12 @@ module _ (g : Settings) (good : checked g ≡ given tt) (M : List (List ℕ)) (m
   pressure-inside p w =
       let q = pressure-read p w in
       subst (λ (z : ℤ). inside recordedPressure z ≡ true) (sym (q .is))
-      (sea-level-recorded g good (first (S .recall 0 m)) (first (S .recall 1 m)) (q .in-pressure) (q .in-warmth))
+      (sea-level-recorded g good (readingAt S m) (inCelsius (S .recall 1 m)) (q .in-pressure) (q .in-warmth))
 
   pub pressure-record : (p : ℤ) → Answers (pressureTests S m) (PressureRule S m) (given p) → (dew : ℕ → ℤ) → recordRight dew 0 (pressureRecord m p) ≡ true
   pressure-record p w dew =
       let q = pressure-read p w in
-      let taken = pressure-taken g good dew (first (S .recall 0 m)) (first (S .recall 1 m)) (q .in-pressure) (q .in-warmth) in
+      let taken = pressure-taken g good dew (readingAt S m) (inCelsius (S .recall 1 m)) (q .in-pressure) (q .in-warmth) in
       both (minute-right m 1 (q .in-time) (lit< tt) refl) (subst (λ (z : ℤ). bodyRight dew (Pressure (natAbs z)) ≡ true) (sym (q .is)) taken)
 
   -- ---- tendency
@@ -100,7 +100,7 @@ module _ (g : Settings) (good : checked g ≡ given tt) (M : List (List ℕ)) (m
       let j = passed _ _ (TendencyRule S m) t (i .1) in
       let rule = ruled (TendencyRule S m) t (j .1) in
       let x = S .recall in
-      let taken = tendency-taken g good dew (first (x 0 m)) (first (x 1 m)) (first (x 0 (m - threeHours))) (first (x 1 (m - threeHours))) (λ k. isPresent (remembered (history (g .unit) 0 M) k)) m
+      let taken = tendency-taken g good dew (readingAt S m) (inCelsius (x 1 m)) (readingAt S (m - threeHours)) (inCelsius (x 1 (m - threeHours))) (λ k. isPresent (remembered (history (g .unit) 0 M) k)) m
       (heard-inside g good M m 0 (lit< tt) (not-false _ (e .0))) (heard-inside g good M m 1 (lit< tt) (not-false _ (f .0)))
       (heard-inside g good M (m - threeHours) 0 (lit< tt) (not-false _ (c .0))) (heard-inside g good M (m - threeHours) 1 (lit< tt) (not-false _ (d .0))) in
       both (minute-right m 2 (a .0) (lit< tt) (le-leb threeHours m (ltb-false m threeHours (b .0))))

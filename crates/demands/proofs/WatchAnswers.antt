@@ -22,7 +22,7 @@ use Rattle.store.specs.History.{history, remembered, isPresent, store-of}
 use Rattle.store.proofs.HistoryLaws.{store-remembers}
 use Rattle.sine.specs.Sines.{sines}
 use Rattle.sine.specs.Sine.{fold, size, sine, cosine}
-use Rattle.pressure.specs.Pressure.{scaleFrom, scale, outside, temperature, height, seaLevel, stationPressure}
+use Rattle.pressure.specs.Pressure.{scaleFrom, scale, outside, temperature, height, seaLevel, stationPressure, tenthsIn}
 use Rattle.wind.specs.Wind.{sum, N, M, meets, count, between, turned, compass, from}
 use Rattle.wind.specs.Answer.{withinLimits}
 use Rattle.wind.proofs.WindTest.{isNearest, isWind, tested}
@@ -125,7 +125,7 @@ pub pressures :
     Tells asked.pressure (heard ship quiet) 100 (pressed (pos 10000))
     × Tells asked.pressure (heard ship quiet) 280 (pressed (pos 10010))
     × Tells asked.pressure (heard ship (at-100 ∷ others)) 280 (missing 0 280)
-unfolding Answers answer history received toWhole nearest rounded ofBits remembered every scaleFrom scale outside temperature height seaLevel
+unfolding Answers answer history received toWhole nearest rounded ofBits remembered every scaleFrom scale outside temperature height seaLevel tenthsIn
 pressures = (λ table tabled. (refl, refl), λ table tabled. (refl, refl), λ table tabled. refl)
 
 -- ---- tendency
@@ -137,7 +137,7 @@ pub tendencies :
     Tells asked.tendency (heard ship quiet) 280 (changed (pos 10) 179)
     × Tells asked.tendency (heard ship busier) 280 (changed (pos 10) 178)
     × Tells asked.tendency (heard ship falling) 280 (changed (negℤ (pos 10)) 179)
-unfolding Answers answer history received toWhole nearest rounded ofBits remembered absents every scaleFrom scale outside temperature height seaLevel
+unfolding Answers answer history received toWhole nearest rounded ofBits remembered absents every scaleFrom scale outside temperature height seaLevel tenthsIn
 tendencies = (
   λ table tabled. (refl, record { change = refl; absent = refl }),
   λ table tabled. (refl, record { change = refl; absent = refl }),
@@ -172,7 +172,7 @@ entry-is table tabled t n i passed = near-one water t (table t) n (tabled t i) (
 
 pub humidities :
     Tells asked.humidity (heard ship quiet) 100 (moist 1366 2335 969 59 116) × Tells asked.humidity (heard ship quiet) 280 (moist 611 611 0 100 0)
-unfolding Answers answer history received toWhole nearest rounded ofBits remembered every scaleFrom scale outside stationPressure vapourPressure near-test dew-test
+unfolding Answers answer history received toWhole nearest rounded ofBits remembered every scaleFrom scale outside stationPressure tenthsIn vapourPressure near-test dew-test
 humidities = (
   λ table tabled. (
     rw (entry-is table tabled (pos 150) 1703 refl tt),

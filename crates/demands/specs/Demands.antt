@@ -5,7 +5,7 @@ use mathlib.Core.List.{List, [], _++_}
 use mathlib.Core.Logic.{_↔_}
 use Prim.Native.Nat.{ℕ, _≤_, _<_}
 use lib.IntN.{ℤ, pos, natAbs}
-use lib.ListN.{length, take}
+use lib.ListN.{length, take, drop}
 use Rattle.number.specs.Refusal.{Numbered, refused, given, Holds, First}
 use Rattle.settings.specs.Settings.{checkedAs}
 use Rattle.settings.specs.Settings as settings
@@ -23,14 +23,18 @@ use Rattle.station.specs.Source.{heard}
 use Rattle.station.specs.Questions.{Asked, pressure, tendency, wind, humidity, question, Reply, reads, Tells}
 use Rattle.heard.specs.Feeds.{SameSettings, fedTo, Replaced, messageTests}
 use Rattle.bytes.specs.Bytes.{AreBytes}
-use Rattle.watchfile.specs.Format.{DewRule, writeTests, recordRight}
+use Rattle.watchfile.specs.Fields.{fieldTests}
+use Rattle.watchfile.specs.Format.{DewRule, fields, reading, brokenAt, writeTests, recordRight}
 use Rattle.watchfile.specs.declared.Record.{Record}
+use Rattle.reader.specs.Read.{verdictAs}
 use Rattle.reader.specs.declared.FileRead.{FileRead}
 use Rattle.reader.specs.declared.Verdict.the-variants.{Good}
 use Rattle.writer.specs.Write.{writtenAs}
 use Rattle.writer.specs.declared.Written.{Written}
 use Rattle.writer.specs.declared.Written.the-variants.{Done}
+use Rattle.listing.specs.Listing.{listingOf, listTests, listedAs}
 use Rattle.listing.specs.declared.Listed.{Listed}
+use Rattle.listing.specs.declared.Listed.the-variants.{Text}
 use Rattle.desk.specs.Records.{pressureRecord, tendencyRecord, windRecord, humidityRecord}
 use Rattle.desk.specs.declared.Entry.{Entry}
 use Rattle.desk.specs.declared.Entry.the-variants as entry
@@ -49,6 +53,10 @@ pub record Demand1 : Type 0 where
       → (table : ℤ → ℕ) → IsTable table → (n : Numbered) → (question q .told x ≡ refused n) ↔ First (question q .tests [] table (heard g M) m) n
   pub write : (dew : ℕ → ℤ) → DewRule dew → (all : List Record) (count : ℕ) (before after : List ℕ) (w : Written) → WritesFile all count before w after
       → (n : Numbered) → (writtenAs w ≡ refused n) ↔ First (writeTests dew all count (length before)) n
+  pub file : (dew : ℕ → ℤ) → DewRule dew → (s : List ℕ) (x : FileRead) → ReadsFile s x
+      → (place : ℕ) → (verdictAs (x .verdict) ≡ refused (brokenAt place)) ↔ First (fieldTests (length s) (fields dew s)) place
+  pub listing : (dew : ℕ → ℤ) → DewRule dew → (s before after : List ℕ) (l : Listed) → ListsFile s before l after
+      → (n : Numbered) → (listedAs l ≡ refused n) ↔ First (listTests (listingOf (reading dew s)) (length before)) n
   -- Settings that no test refuses open a store, on any memory, and it goes on whatever it is sent.
   pub opens : (b : List ℕ) (g : Settings) (c : Checked) (b′ : List ℕ) → Opens b g c b′ → ((n : ℕ) → Holds (settings.tests g) n → ⊥) → Working g [] b′
   pub goes-on : (g : Settings) (M : List (List ℕ)) (b : List ℕ) → Working g M b → (m : List ℕ) → (h : Hearing) × (b′ : List ℕ) × Hears b m h b′
@@ -59,7 +67,7 @@ pub record Demand1 : Type 0 where
   pub refused-question : (q : Asked) (b : List ℕ) (m : ℕ) (x : Reply q) (b′ : List ℕ) (n : Numbered) → Asks q b m x b′ → question q .told x ≡ refused n → b′ ≡ b
   pub refused-write : (all : List Record) (count : ℕ) (before after : List ℕ) (w : Written) (n : Numbered)
       → WritesFile all count before w after → writtenAs w ≡ refused n → after ≡ before
-
+  pub refused-listing : (s before after : List ℕ) (l : Listed) (n : Numbered) → ListsFile s before l after → listedAs l ≡ refused n → after ≡ before
 
 -- ---- 2. "Pressure, tendency, true wind and humidity are exactly those that RD 52.04.651 defines, as document 01 fixes it, worked from
 -- the readings heard, and refused only for the listed reasons."
@@ -85,6 +93,9 @@ pub record Demand2 : Type 0 where
   -- "and accepted records written and read again are the same." (There are 48 places, and no more are accepted.)
   pub records-again : (all : List Record) (count : ℕ) (before after : List ℕ) (size : ℕ) → count ≤ length all → WritesFile all count before (Done size) after
       → (x : FileRead) → ReadsFile (take size after) x → (x .verdict ≡ Good count) × (take count (x .records) ≡ take count all)
+  -- A listing is document 01's, and what stood behind it in the buffer stays.
+  pub listed : (dew : ℕ → ℤ) → DewRule dew → (s before after : List ℕ) (size : ℕ) → ListsFile s before (Text size) after
+      → (size ≡ length (listingOf (reading dew s))) × (after ≡ listingOf (reading dew s) ++ drop size before)
 
 -- ---- 3. "Open two stores with the same settings and send each any messages, bad ones included."
 
