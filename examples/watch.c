@@ -86,8 +86,12 @@ int main(void)
     zhitomrak_file read = zhitomrak_read(file, written.bytes);
     printf("read: %zu records, the last of minute %" PRIu32 "\n", read.count, read.records.all[read.count - 1].minute);
     uint8_t text[ZHITOMRAK_TEXT];
-    fwrite(text, 1, zhitomrak_list(file, written.bytes, text, sizeof text), stdout);
+    zhitomrak_listed no_room = zhitomrak_list(file, written.bytes, text, 10);
+    printf("list: refused %" PRIu32 ", %zu bytes needed\n", no_room.number, no_room.bytes);
+    zhitomrak_listed listed = zhitomrak_list(file, written.bytes, text, no_room.bytes);
+    fwrite(text, 1, listed.bytes, stdout);
     file[written.bytes - 1] ^= 1; /* a damaged dew point */
-    fwrite(text, 1, zhitomrak_list(file, written.bytes, text, sizeof text), stdout);
+    listed = zhitomrak_list(file, written.bytes, text, sizeof text);
+    fwrite(text, 1, listed.bytes, stdout);
     return 0;
 }

@@ -121,7 +121,7 @@ zhitomrak_humidity_answer zhitomrak_humidity(const zhitomrak_store *store, uint3
 
 /* ---- watch files ---- */
 
-/* The most records of a file, and the bytes of the longest file and of the room that a listing asks for. */
+/* The most records of a file, the bytes of the longest file, and bytes that are enough for the listing of any file. */
 #define ZHITOMRAK_RECORDS 48
 #define ZHITOMRAK_FILE 820
 #define ZHITOMRAK_TEXT 2264
@@ -170,10 +170,14 @@ typedef struct {
  * the bytes needed. A count above 48 looks at the 48 records that there are. */
 zhitomrak_written zhitomrak_write(uint8_t *buffer, size_t length, zhitomrak_records records, size_t count);
 
-/* Lists a watch file: puts its text at the start of the lent bytes, leaves those behind it, and gives the text's length, which is
- * never 0. A broken file is listed too, as document 01 says. Where fewer than ZHITOMRAK_TEXT bytes are lent: 0, and every byte
- * stays. */
-size_t zhitomrak_list(const uint8_t *file, size_t length, uint8_t *text, size_t room);
+typedef struct {
+    uint32_t number; /* 0 or 17 */
+    size_t bytes;    /* of the text that was put, or needed where 17 */
+} zhitomrak_listed;
+
+/* Lists a watch file: puts its text at the start of the lent bytes, and leaves those behind it. A broken file is listed too, as
+ * document 01 says. Or 17, fewer bytes are lent than this listing has, with the bytes needed, and every byte stays. */
+zhitomrak_listed zhitomrak_list(const uint8_t *file, size_t length, uint8_t *text, size_t room);
 
 #ifdef __cplusplus
 }

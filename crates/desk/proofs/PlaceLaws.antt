@@ -10,7 +10,8 @@ use lib.ListN.{length, take, set, getD, length-take, length-set}
 use lib.Seq.{getD-take, take-all, take-take, take-suc, take-set-lt}
 use Rattle.number.specs.Refusal.{Test, Answer, refused, given, answer, Numbered, numbered}
 use Rattle.bytes.specs.Bytes.{AreBytes}
-use Rattle.watchfile.specs.Format.{blank, recordRight, recordTests, rankOf, fileOf, reading, writing}
+use Rattle.bytes.specs.Lent.{short}
+use Rattle.watchfile.specs.Format.{blank, recordRight, recordTests, past, rankOf, fileOf, reading, writing}
 use Rattle.watchfile.specs.declared.Record.{Record}
 use Rattle.reader.specs.Read.{verdictAs, counted, places}
 use Rattle.reader.specs.declared.Verdict.{Verdict}
@@ -18,7 +19,6 @@ use Rattle.reader.specs.declared.Verdict.the-variants.{Good, Broken}
 use Rattle.reader.proofs.VerdictLaws.{broken-is, good-is}
 use Rattle.writer.specs.Write.{writtenAs, Wrote}
 use Rattle.writer.specs.declared.Written.{Written}
-use Rattle.writer.proofs.WriteLaws.{past, short}
 use Rattle.writer.proofs.RestLaws.{at}
 use Rattle.writer.proofs.ReadWrittenLaws.{read-right}
 use Rattle.desk.specs.Placing.{inserted, placedAs, writingAll, placing, Leaves, placeOf, pushed}

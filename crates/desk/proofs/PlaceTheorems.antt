@@ -15,11 +15,12 @@ use Rattle.number.specs.Refusal.{Answer, refused, given, answer, Numbered, numb
 use Rattle.number.proofs.Sizes.{and-true}
 use Rattle.quantity.specs.Limits.{lastMinute, threeHours}
 use Rattle.bytes.specs.Bytes.{AreBytes}
+use Rattle.bytes.specs.Lent.{short}
+use Rattle.bytes.proofs.LentLaws.{refused-leaves}
 use Rattle.watchfile.specs.Rules.{minuteRight, rank}
-use Rattle.watchfile.specs.Format.{DewRule, kindOf, bodyRight, recordRight, rankOf, bodyBytes, bodiesBytes, fileOf, reading, writing}
+use Rattle.watchfile.specs.Format.{DewRule, kindOf, bodyRight, recordRight, rankOf, bodyBytes, bodiesBytes, fileOf, reading, past, writing}
 use Rattle.watchfile.specs.declared.Record.{Record}
 use Rattle.writer.proofs.SizeLaws.{size-most, length-body, length-file}
-use Rattle.writer.proofs.WriteLaws.{past, short}
 use Rattle.writer.proofs.RightLaws.{AllRight, right-goes-on}
 use Rattle.writer.proofs.ReadWrittenLaws.{read-right}
 use Rattle.writer.proofs.RoundTrips.{written-then-read}
@@ -193,8 +194,4 @@ empty-then-read rule ruled room file e = written-then-read rule [] 0 room file e
 -- REFUSED, NO BYTE CHANGES.
 pub refused-leaves-every-byte : (file : Answer Numbered (List ℕ)) (before after : List ℕ) (p : Placed) (x : Numbered)
     → Leaves file before after p → placedAs p ≡ refused x → after ≡ before
-refused-leaves-every-byte (refused y) before after p x l e = l .bytes
-refused-leaves-every-byte (given f) before after p x l e =
-    let never : _≡_ {A = Answer Numbered ℕ} (refused x) (given (length f)) = sym e ∙ l .answer in
-    let z : _≡_ {A = ℕ} 0 1 = cc in
-    absurd (omega arith)
+refused-leaves-every-byte file before after p x l e = l .bytes ∙ refused-leaves file before x (sym (l .answer) ∙ e)

@@ -7,9 +7,9 @@ use lib.Dec.{ltb, leb, eqb}
 use lib.IntN.{ℤ}
 use lib.ListN.{length, take}
 use Rattle.number.specs.Refusal.{Answer, refused, given, Numbered, numbered}
+use Rattle.bytes.specs.Lent.{sized, leftBy}
 use Rattle.watchfile.specs.Format.{reading, brokenAt, writing, rankOf}
 use Rattle.watchfile.specs.declared.Record.{Record}
-use Rattle.writer.specs.Write.{sized, leftBy}
 use Rattle.desk.specs.declared.Placed.{Placed}
 use Rattle.desk.specs.declared.Placed.the-variants.{Done, BreaksRules, TooShort, Broken}
 

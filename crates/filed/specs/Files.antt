@@ -10,11 +10,10 @@ use Rattle.watchfile.specs.Format.{kept, brokenAt}
 use Rattle.watchfile.specs.declared.Body.{Body}
 use Rattle.watchfile.specs.declared.Body.the-variants.{Pressure, Tendency, Wind, Humidity}
 use Rattle.watchfile.specs.declared.Record.{Record}
-use Rattle.listing.specs.declared.Listed.{Listed}
-use Rattle.listing.specs.declared.Listed.the-variants.{Text, TooShort}
 use Rattle.filed.specs.declared.FileRecord.{FileRecord}
 use Rattle.filed.specs.declared.FileTold.{FileTold}
 use Rattle.filed.specs.declared.WriteTold.{WriteTold}
+use Rattle.filed.specs.declared.ListTold.{ListTold}
 
 -- ---- reading
 
@@ -60,6 +59,7 @@ writeIn (refused r) =
     record { number = r .number; index = cond (eqb (r .number) 16) (getD (r .extra) 0 0) 0; bytes = cond (eqb (r .number) 16) 0 (getD (r .extra) 0 0) }
 writeIn (given n) = record { number = 0; index = 0; bytes = n }
 
-abbrev pub listedBy : Listed → ℕ
-listedBy (Text n) = n
-listedBy TooShort = 0
+-- 17 also returns the bytes needed; a good listing tells the bytes of the text.
+abbrev pub listIn : Answer Numbered ℕ → ListTold
+listIn (refused r) = record { number = r .number; bytes = getD (r .extra) 0 0 }
+listIn (given n) = record { number = 0; bytes = n }

@@ -7,7 +7,8 @@ ghost use lib.ListN.{replicate, take};
 ghost use Rattle.watchfile.specs.Format.{kept};
 ghost use Rattle.reader.specs.Read.{verdictAs};
 ghost use Rattle.writer.specs.Write.{writtenAs};
-ghost use Rattle.filed.specs.Files.{recordIn, nothing, fileBy, writeIn, listedBy};
+ghost use Rattle.listing.specs.Listing.{listedAs};
+ghost use Rattle.filed.specs.Files.{recordIn, nothing, fileBy, writeIn, listIn};
 use listing::Listed;
 use number::Kept;
 use number::Number;
@@ -49,6 +50,13 @@ pub struct FileTold {
 pub struct WriteTold {
     pub number: u32,
     pub index: usize,
+    pub bytes: usize,
+}
+
+// A listing: 0 and the bytes of the text, or 17 and the bytes needed.
+#[repr(C)]
+pub struct ListTold {
+    pub number: u32,
     pub bytes: usize,
 }
 
@@ -200,12 +208,12 @@ pub fn write_told(w: Written) -> WriteTold
     }
 }
 
-// How long a listing is, or 0 where it had no room.
-pub fn listed_told(l: Listed) -> usize
-    ensures { λ r. ⌜ r ≡ listedBy l ⌝ }
+// What listing came to, as a number with the bytes.
+pub fn listed_told(l: Listed) -> ListTold
+    ensures { λ r. ⌜ r ≡ listIn (listedAs l) ⌝ }
 {
     match l {
-        Listed::Text(n) => n,
-        Listed::TooShort => 0,
+        Listed::Text(bytes) => ListTold { number: 0, bytes },
+        Listed::TooShort(bytes) => ListTold { number: 17, bytes },
     }
 }

@@ -18,6 +18,6 @@ fn main() {
     let mut text = [0u8; listing::TEXT];
     match listing::list(&file[..n], &mut text) {
         Listed::Text(k) => say(&text, k),
-        Listed::TooShort => {}
+        Listed::TooShort(_) => {}
     }
 }

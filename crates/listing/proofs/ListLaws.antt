@@ -1,23 +1,22 @@
--- What was read, as text: the lines put are those of the listing, and all of it fits. Assumes nothing.
-use mathlib.Core.Path.{_≡_, ap, _∙_, subst}
+-- What was read, as text, and that text in a lent buffer. Assumes nothing.
+use mathlib.Core.Path.{_≡_, sym, ap, _∙_}
 use mathlib.Core.List.{List, _++_}
-use Prim.Native.Nat.{ℕ, _+_, _^_, _≤_, _<_}
+use Prim.Native.Nat.{ℕ, _≤_, _<_}
 use native.Mathlib.Omega.{arith}
-use native.Mathlib.Nat.{zero-add}
 use lib.IntN.{ℤ}
-use lib.ListN.{length, take}
+use lib.ListN.{length, take, drop}
+use lib.Seq.{take-at}
 use borrow.Author.Tests.{lt-ltb, le-ltb}
-use Rattle.number.specs.Refusal.{Answer, refused, given}
+use Rattle.number.specs.Refusal.{Answer, refused, given, answer}
 use Rattle.text.specs.Text.{Put}
-use Rattle.text.proofs.PutLaws.{put-whole, behind-whole}
-use Rattle.bytes.specs.Bytes.{AreBytes}
+use Rattle.text.proofs.PutLaws.{put-front}
 use Rattle.watchfile.specs.Format.{reading, brokenAt}
 use Rattle.watchfile.specs.declared.Record.{Record}
 use Rattle.reader.specs.Read.{counted, places}
 use Rattle.reader.proofs.VerdictLaws.{broken-is, good-is}
 use Rattle.listing.specs.declared.Listed.the-variants.{Text, TooShort}
-use Rattle.listing.specs.Listing.{recordLines, headLine, refusedLine, listingOf, TEXT, Lists}
-use Rattle.listing.proofs.FitLaws.{count-fits, listing-fits}
+use Rattle.listing.specs.Listing.{recordLines, headLine, refusedLine, listingOf, listing, Lists}
+use Rattle.listing.proofs.FitLaws.{count-fits}
 
 -- ---- what was read
 
@@ -27,37 +26,28 @@ good-count dew s n all v r =
     let good = good-is (reading dew s) n all v r in
     omega (arith, good .1, count-fits dew s (take n all) (good .0))
 
-good-text : (a : Answer ℕ (List Record)) (n : ℕ) (all : List Record) → counted a ≡ given n → all ≡ places a → headLine n ++ recordLines (take n all) ≡ listingOf a
+pub good-text : (a : Answer ℕ (List Record)) (n : ℕ) (all : List Record) → counted a ≡ given n → all ≡ places a → headLine n ++ recordLines (take n all) ≡ listingOf a
 unfolding listingOf
 good-text a n all v r = let good = good-is a n all v r in rw (good .0, good .1)
 
-broken-text : (a : Answer ℕ (List Record)) (place : ℕ) → counted a ≡ refused (brokenAt place) → refusedLine place ≡ listingOf a
+pub broken-text : (a : Answer ℕ (List Record)) (place : ℕ) → counted a ≡ refused (brokenAt place) → refusedLine place ≡ listingOf a
 unfolding listingOf
 broken-text a place v = rw (broken-is a place v)
 
--- ---- the text in the buffer
+-- ---- the text in a lent buffer: it was put whole into room of its own, from which its n bytes are put into the buffer
 
-pub too-short : (before listing : List ℕ) → length before < TEXT → Lists listing before before TooShort
-too-short before listing h =
-    record { answer = rw (lt-ltb (length before) TEXT h); bytes = rw (lt-ltb (length before) TEXT h) }
+module _ {room whole text before : List ℕ} {n : ℕ} (fits : length text ≤ length room) (p : Put room whole 0 text n) where
+  pub lists-none : length before < n → Lists text before before (TooShort n)
+  unfolding answer listing
+  lists-none h =
+      let size = put-front p fits .1 in
+      let small : length before < length text = omega arith in
+      record { answer = rw (lt-ltb (length before) (length text) small, size); bytes = rw (lt-ltb (length before) (length text) small) }
 
-lists : {before after listing : List ℕ} {k : ℕ} → TEXT ≤ length before → length listing ≤ TEXT → Put before after 0 listing k
-    → Lists listing before after (Text k)
-lists {before} {after} {listing} {k} h l p =
-    let inside : 0 + length listing ≤ length before = omega arith in
-    record {
-      answer = rw (le-ltb (length before) TEXT h) (ap Text (p .next ∙ behind-whole before 0 listing inside ∙ zero-add (length listing)));
-      bytes = rw (le-ltb (length before) TEXT h) (p .laid ∙ put-whole before 0 listing inside ∙ rw (zero-add (length listing)));
-    }
-
--- a file of bytes, and a buffer that has room
-module _ (before : List ℕ) {after : List ℕ} (dew : ℕ → ℤ) (s : List ℕ) (bytes : AreBytes s) (long : length s < 10 ^ 20) (room : TEXT ≤ length before) where
-  pub good-lists : {n k : ℕ} {all : List Record} → counted (reading dew s) ≡ given n → all ≡ places (reading dew s)
-      → Put before after 0 (headLine n ++ recordLines (take n all)) k → Lists (listingOf (reading dew s)) before after (Text k)
-  good-lists {n} {k} {all} v r p =
-      lists room (listing-fits dew s bytes long) (subst (λ (x : List ℕ). Put before after 0 x k) (good-text (reading dew s) n all v r) p)
-
-  pub broken-lists : {place k : ℕ} → counted (reading dew s) ≡ refused (brokenAt place) → Put before after 0 (refusedLine place) k
-      → Lists (listingOf (reading dew s)) before after (Text k)
-  broken-lists {place} {k} v p =
-      lists room (listing-fits dew s bytes long) (subst (λ (x : List ℕ). Put before after 0 x k) (broken-text (reading dew s) place v) p)
+  pub lists-all : {after : List ℕ} {k : ℕ} → n ≤ length before → Put before after 0 (take n whole) k → Lists text before after (Text n)
+  unfolding answer listing
+  lists-all h q =
+      let size = put-front p fits .1 in
+      let front : take n whole ≡ text = ap (take n) (put-front p fits .0) ∙ take-at text (drop (length text) room) n (sym size) in
+      let enough : length text ≤ length before = omega arith in
+      record { answer = rw (le-ltb (length before) (length text) enough, size); bytes = rw (le-ltb (length before) (length text) enough) (put-front (rw front at q) enough .0) }

@@ -1,11 +1,10 @@
 -- The listing of a watch file (document 01, "Watch file").
 use mathlib.Core.Path.{_≡_}
-use mathlib.Core.Bool.{cond}
 use mathlib.Core.List.{List, [], _∷_, _++_}
 use Prim.Native.Nat.{ℕ, _+_, _*_}
-use lib.Dec.{ltb}
-use lib.ListN.{length, drop}
-use Rattle.number.specs.Refusal.{Answer, refused, given}
+use lib.ListN.{length}
+use Rattle.number.specs.Refusal.{Test, Answer, refused, given, answer, Numbered, numbered}
+use Rattle.bytes.specs.Lent.{short, sized, leftBy}
 use Rattle.text.specs.Letters.{letters}
 use Rattle.text.specs.Text.{field, fieldOf, end}
 use Rattle.watchfile.specs.declared.Body.{Body}
@@ -57,12 +56,25 @@ listingOf (refused place) = refusedLine place
 abbrev pub LINE : ℕ
 LINE = 1 + 11 + 3 * 6 + 4 + 12 + 1
 
--- `WT 1 48` with its end, and 48 lines.
+-- Room for every listing: `WT 1 48` with its end, and 48 lines.
 abbrev pub TEXT : ℕ
 TEXT = 8 + 48 * LINE
 
--- The listing of a file in a lent buffer: with less room than any listing may need, nothing; else the text, and behind it what stood
--- there.
-pub record Lists (listing before after : List ℕ) (r : Listed) : Type 0 where
-  pub answer : r ≡ cond (ltb (length before) TEXT) TooShort (Text (length listing))
-  pub bytes : after ≡ cond (ltb (length before) TEXT) before (listing ++ drop (length listing) before)
+-- ---- the listing in a lent buffer
+
+-- A text put into room for so many bytes: 17 with "bytes needed", or the text.
+abbrev pub listTests : List ℕ → ℕ → List (Test Numbered)
+listTests text room = short room (length text) ∷ []
+
+unfoldable pub listing : List ℕ → ℕ → Answer Numbered (List ℕ)
+listing text room = answer (listTests text room) text
+
+-- Document 01's number of each case, and what it also returns.
+abbrev pub listedAs : Listed → Answer Numbered ℕ
+listedAs (Text n) = given n
+listedAs (TooShort n) = refused (numbered 17 (n ∷ []))
+
+-- A text was to be put into the buffer `before`, which is `after` then, and was answered by r.
+pub record Lists (text before after : List ℕ) (r : Listed) : Type 0 where
+  pub answer : listedAs r ≡ sized (listing text (length before))
+  pub bytes : after ≡ leftBy before (listing text (length before))

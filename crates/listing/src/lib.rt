@@ -13,16 +13,18 @@ use watchfile::Body;
 use watchfile::RECORDS;
 use watchfile::Record;
 
-// What listing came to: the bytes of the text, or that fewer than TEXT bytes were lent.
+// What listing came to.
 pub enum Listed {
+    // the bytes of the text
     Text(usize),
-    TooShort,
+    // 17: the bytes needed
+    TooShort(usize),
 }
 
 // The longest line: a letter, a minute of 10 digits, numbers of 5, 5, 5 and 3, one of 10 with its minus, spaces, and the end.
 const LINE: usize = 1 + 11 + 3 * 6 + 4 + 12 + 1;
 
-// The bytes of the longest listing: `WT 1 48` with its end, and 48 lines.
+// Room for every listing: `WT 1 48` with its end, and 48 lines.
 pub const TEXT: usize = 8 + RECORDS * LINE;
 
 // Puts the fields of a tendency. As all of these it gives the place behind what it put.
@@ -154,19 +156,28 @@ fn put_listing(text: &mut [u8], count: usize, records: [Record; RECORDS]) -> usi
     put_records(text, behind, count, records)
 }
 
-// Puts the listing of a watch file at the start of the lent bytes: a line for the file and one for each record, or one that
-// says where it is broken. How long it is.
-pub fn list(file: &[u8], text: &mut [u8]) -> Listed
-    ensures { λ r. ⌜ ((rule : ℕ → ℤ) → DewRule rule → Lists (listingOf (reading rule (now (file .entry)))) (now (text .entry)) (now (text .exit)) r) ⌝ }
+// Puts the listing of a watch file: a line for the file and one for each record, or one that says where it is broken.
+fn put_file(text: &mut [u8], file: &[u8]) -> usize
+    ensures { λ r. ⌜ ((rule : ℕ → ℤ) → DewRule rule → Put (now (text .entry)) (now (text .exit)) 0 (listingOf (reading rule (now (file .entry)))) r) ⌝ }
 {
-    if text.len() < TEXT {
-        return Listed::TooShort;
-    }
     let read = reader::read(file);
     let verdict = read.verdict;
     let records = read.records;
     match verdict {
-        Verdict::Good(count) => Listed::Text(put_listing(text, count, records)),
-        Verdict::Broken(place) => Listed::Text(put_refusal(text, place)),
+        Verdict::Good(count) => put_listing(text, count, records),
+        Verdict::Broken(place) => put_refusal(text, place),
     }
+}
+
+// Puts the listing of a watch file at the start of the lent bytes and says how long it is, or gives refusal 17 and leaves every byte.
+pub fn list(file: &[u8], text: &mut [u8]) -> Listed
+    ensures { λ r. ⌜ ((rule : ℕ → ℤ) → DewRule rule → Lists (listingOf (reading rule (now (file .entry)))) (now (text .entry)) (now (text .exit)) r) ⌝ }
+{
+    let mut whole = [0u8; TEXT];
+    let n = put_file(&mut whole, file);
+    if text.len() < n {
+        return Listed::TooShort(n);
+    }
+    text::put_bytes(text, 0, &whole[..n]);
+    Listed::Text(n)
 }

@@ -1,11 +1,11 @@
 -- Laws of putting text: a text put behind a text is the two joined, wherever they lie; and what stands where all of it fits.
 -- A text is laid byte by byte, and beyond the end nothing is. Assumes nothing.
-use mathlib.Core.Path.{_≡_, refl, sym, ap, _∙_}
+use mathlib.Core.Path.{_≡_, refl, sym, ap, _∙_, subst}
 use mathlib.Core.Bool.{Bool, true, false}
 use mathlib.Core.List.{List, [], _∷_, _++_}
-use Prim.Native.Nat.{ℕ, suc, _+_, _≤_, _<_, min}
+use Prim.Native.Nat.{ℕ, suc, _+_, _-_, _≤_, _<_, min}
 use native.Mathlib.Omega.{arith}
-use native.Mathlib.Nat.{add-zero}
+use native.Mathlib.Nat.{add-zero, zero-add}
 use native.Mathlib.Numerals.{add-one}
 use lib.Dec.{leb}
 use lib.ListN.{length, take, drop, set, getD, length-append, drop-of-length-le}
@@ -80,14 +80,19 @@ pub put-none : (b : List ℕ) (at : ℕ) (xs : List ℕ) → length b ≤ at →
 unfolding put behind
 put-none b at xs h = record { laid = sym (sets-out b at xs h); next = omega arith }
 
--- bytes put one after the other: a byte and those behind it are those from it on, and nothing is left at the end
+-- bytes put one after the other: a byte and those behind it are those from it on, and at the end none is left or none has room
 pub put-step : {b b₁ b₂ : List ℕ} {at k₁ k₂ : ℕ} (bytes : List ℕ) (i : ℕ) → i < length bytes
     → Put b b₁ at (getD bytes i 0 ∷ []) k₁ → Put b₁ b₂ k₁ (drop (i + 1) bytes) k₂ → Put b b₂ at (drop i bytes) k₂
 put-step bytes i h p q = rw (drop-cons bytes i 0 h, ← add-one i) (join p q)
 
-pub put-end : (b : List ℕ) (at : ℕ) (bytes : List ℕ) (i r : ℕ) → length bytes ≤ i → r ≡ min at (length b) → Put b b at (drop i bytes) r
-unfolding put behind
-put-end b at bytes i r h e = rw (drop-of-length-le bytes h) (record { laid = refl; next = omega arith })
+pub put-end : (b : List ℕ) (at : ℕ) (bytes : List ℕ) (i : ℕ) → at ≤ length b → i ≡ min (length bytes) (length b - at) → Put b b (at + i) (drop i bytes) (at + i)
+put-end b at bytes i h e = go (leb (length bytes) i) refl
+  where
+    go : (t : Bool) → leb (length bytes) i ≡ t → Put b b (at + i) (drop i bytes) (at + i)
+    go true l = rw (drop-of-length-le bytes (leb-true (length bytes) i l)) (put-nothing b (at + i) (omega arith))
+    go false l =
+        let end : length b ≡ at + i = omega (arith, leb-false (length bytes) i l) in
+        subst (λ (k : ℕ). Put b b (at + i) (drop i bytes) k) end (put-none b (at + i) (drop i bytes) (omega arith))
 
 -- ---- where all of it fits
 
@@ -98,3 +103,9 @@ put-whole b at xs h = sets-eq xs b at h
 pub behind-whole : (b : List ℕ) (at : ℕ) (xs : List ℕ) → at + length xs ≤ length b → behind b at xs ≡ at + length xs
 unfolding behind
 behind-whole b at xs h = omega arith
+
+-- at the start: the text, and behind it what stood there
+pub put-front : {b b₁ xs : List ℕ} {k : ℕ} → Put b b₁ 0 xs k → length xs ≤ length b → (b₁ ≡ xs ++ drop (length xs) b) × (k ≡ length xs)
+put-front {b} {b₁} {xs} {k} p h =
+    let inside : 0 + length xs ≤ length b = omega arith in
+    (p .laid ∙ put-whole b 0 xs inside ∙ rw (zero-add (length xs)), p .next ∙ behind-whole b 0 xs inside ∙ zero-add (length xs))

@@ -58,13 +58,16 @@ pub fn put_number(text: &mut [u8], at: usize, n: Number) -> usize
 pub fn put_bytes(text: &mut [u8], at: usize, bytes: &[u8]) -> usize
     ensures { λ r. ⌜ Put (now (text .entry)) (now (text .exit)) at (now (bytes .entry)) r ⌝ }
 {
-    let mut place = at;
+    if text.len() <= at {
+        return text.len();
+    }
+    let fitting = smaller(bytes.len(), text.len() - at);
     let mut i = 0;
-    while i < bytes.len() {
-        place = put_byte(text, place, bytes[i]);
+    while i < fitting {
+        text[at + i] = bytes[i];
         i += 1;
     }
-    smaller(place, text.len())
+    at + fitting
 }
 
 // Puts a number behind a space. The place behind it.

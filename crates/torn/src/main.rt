@@ -135,7 +135,7 @@ fn list(file: &[u8]) {
     let mut text = [0u8; listing::TEXT];
     match listing::list(file, &mut text) {
         Listed::Text(n) => say_first(&text, n),
-        Listed::TooShort => say(b"no room\n"),
+        Listed::TooShort(_) => say(b"no room\n"),
     }
 }
 
@@ -160,15 +160,6 @@ fn store(file: &mut [u8], at: usize, byte: u8) {
     }
 }
 
-// The low and the high byte of a number.
-fn low(n: u16) -> u8 {
-    (n % 256) as u8
-}
-
-fn high(n: u16) -> u8 {
-    (n / 256) as u8
-}
-
 // Shows the file of four kinds with another byte, and with another number in two bytes.
 fn byte(words: &[u8], at: usize, to: u8) {
     let mut file = FOUR;
@@ -178,7 +169,8 @@ fn byte(words: &[u8], at: usize, to: u8) {
 
 fn number(words: &[u8], at: usize, to: u16) {
     let mut file = FOUR;
-    text::put_bytes(&mut file, at, &[low(to), high(to)]);
+    let two = bytes::in_two(to);
+    text::put_bytes(&mut file, at, &two);
     show(words, &file);
 }
 
@@ -287,11 +279,9 @@ fn humidities() {
     byte(b"the dew point one more", DEW, 117);
     byte(b"the dew point one less", DEW, 115);
     let mut file = FOUR;
-    text::put_bytes(
-        &mut file,
-        E,
-        &[low(13000), high(13000), low(13000), high(13000)],
-    );
+    let two = bytes::in_two(13000);
+    text::put_bytes(&mut file, E, &two);
+    text::put_bytes(&mut file, SATURATION, &two);
     show(b"e and saturation of 130.00, wrong at saturation", &file);
 }
 
@@ -338,11 +328,12 @@ fn store_humidity(file: &mut [u8], i: u16)
     requires { ⌜ i < 48 ⌝ }
 {
     let at = 388 + 9 * i;
-    let minute = 1000 + i;
+    let offset = bytes::in_two(at);
+    let minute = bytes::in_two(1000 + i);
     text::put_bytes(
         file,
         4 + 8 * i as usize,
-        &[4, 0, low(at), high(at), low(minute), high(minute), 0, 0],
+        &[4, 0, offset[0], offset[1], minute[0], minute[1], 0, 0],
     );
     text::put_bytes(file, at as usize, &[0x56, 5, 0x1F, 9, 0xC9, 3, 59, 116, 0]);
 }

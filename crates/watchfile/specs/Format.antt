@@ -11,6 +11,7 @@ use Rattle.number.specs.Refusal.{Test, Answer, answer, Numbered, numbered}
 use Rattle.number.specs.declared.Kept.{Kept}
 use Rattle.vapour.specs.Vapour.{DewPoint, recordedVapour}
 use Rattle.bytes.specs.Bytes.{le16, le32, bytes16, bytes32, signed16, unsigned16}
+use Rattle.bytes.specs.Lent.{short}
 use Rattle.watchfile.specs.Rules.{kindRight, sizeOf, rank, minuteRight, pressureRight, changeRight, absentRight, speedRight, directionRight, eRight, saturationRight, deficitRight, relativeRight, dewRight}
 use Rattle.watchfile.specs.Fields.{Field, field, fieldTests, placed}
 use Rattle.watchfile.specs.declared.Body.{Body}
@@ -179,13 +180,13 @@ recordTests dew i before [] = []
 recordTests dew i before (r ∷ rs) =
     record { refusal = numbered 16 (i ∷ []); holds = not (recordRight dew before r) } ∷ recordTests dew (i + 1) (rankOf r) rs
 
+abbrev pub past : ℕ → Test Numbered
+past count = record { refusal = numbered 16 (48 ∷ []); holds = ltb 48 count }
+
 -- Writing the first `count` of the records handed over into room for so many bytes: 16, then 17 with "bytes needed", or the file.
 abbrev pub writeTests : (ℕ → ℤ) → List Record → ℕ → ℕ → List (Test Numbered)
 writeTests dew all count room =
-    recordTests dew 0 0 (take count all)
-    ++ (record { refusal = numbered 16 (48 ∷ []); holds = ltb 48 count }
-    ∷ record { refusal = numbered 17 (length (fileOf (take count all)) ∷ []); holds = ltb room (length (fileOf (take count all))) }
-    ∷ [])
+    recordTests dew 0 0 (take count all) ++ (past count ∷ short room (length (fileOf (take count all))) ∷ [])
 
 unfoldable pub writing : (ℕ → ℤ) → List Record → ℕ → ℕ → Answer Numbered (List ℕ)
 writing dew all count room = answer (writeTests dew all count room) (fileOf (take count all))

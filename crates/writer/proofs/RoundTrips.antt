@@ -11,10 +11,10 @@ use lib.ListN.{length, take, length-take}
 use borrow.Author.Tests.{ltb-false, le-ltb}
 use Rattle.number.specs.Refusal.{refused, given, answer, Numbered, numbered}
 use Rattle.bytes.specs.Bytes.{AreBytes}
-use Rattle.watchfile.specs.Format.{DewRule, reading, writing, fileOf}
+use Rattle.bytes.specs.Lent.{short}
+use Rattle.watchfile.specs.Format.{DewRule, reading, writing, fileOf, past}
 use Rattle.watchfile.specs.declared.Record.{Record}
 use Rattle.writer.proofs.RightLaws.{AllRight, right-goes-on, given-right}
-use Rattle.writer.proofs.WriteLaws.{past, short}
 use Rattle.writer.proofs.WrittenReadLaws.{right-read}
 use Rattle.writer.proofs.ReadWrittenLaws.{read-right}
 

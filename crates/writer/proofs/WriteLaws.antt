@@ -3,14 +3,14 @@ use mathlib.Core.Path.{_≡_, sym, ap, _∙_}
 use mathlib.Core.List.{List, [], _∷_, _++_, append-assoc}
 use Prim.Native.Nat.{ℕ, _+_, _*_, _≤_, _<_}
 use native.Mathlib.Omega.{arith}
-use lib.Dec.{ltb}
 use lib.IntN.{ℤ}
 use lib.ListN.{length, take, drop}
 use lib.Seq.{sets, sets-eq, length-take-le}
 use borrow.Author.Tests.{lt-ltb, le-ltb}
 use Rattle.number.specs.Refusal.{Test, refused, given, answer, Numbered, numbered}
 use Rattle.number.proofs.RefusalLaws.{refused-stays, given-goes-on}
-use Rattle.watchfile.specs.Format.{DewRule, recordTests, rowsBytes, bodiesBytes, fileOf, startOf, writing}
+use Rattle.bytes.specs.Lent.{short}
+use Rattle.watchfile.specs.Format.{DewRule, recordTests, past, rowsBytes, bodiesBytes, fileOf, startOf, writing}
 use Rattle.watchfile.specs.declared.Record.{Record}
 use Rattle.writer.specs.Write.{Wrote, Checks, checkedAs, rulesTests}
 use Rattle.writer.specs.declared.Written.the-variants as written
@@ -18,13 +18,6 @@ use Rattle.writer.specs.declared.Checked.{Checked}
 use Rattle.writer.specs.declared.Checked.the-variants as checked
 use Rattle.writer.proofs.PartLaws.{sets-append}
 use Rattle.writer.proofs.SizeLaws.{length-rows, length-file}
-
--- the test of the 49th record, and of the room
-abbrev pub past : ℕ → Test Numbered
-past count = record { refusal = numbered 16 (48 ∷ []); holds = ltb 48 count }
-
-abbrev pub short : ℕ → ℕ → Test Numbered
-short room needs = record { refusal = numbered 17 (needs ∷ []); holds = ltb room needs }
 
 pub past-stops : {A : Type 0} (count : ℕ) (a : A) → 48 < count → answer (past count ∷ []) a ≡ refused (numbered 16 (48 ∷ []))
 unfolding answer

@@ -2,11 +2,11 @@
 use mathlib.Core.Path.{_≡_}
 use mathlib.Core.List.{List, [], _∷_, _++_}
 use Prim.Native.Nat.{ℕ, _≤_}
-use lib.Dec.{ltb}
 use lib.IntN.{ℤ}
-use lib.ListN.{length, drop, take}
+use lib.ListN.{length, take}
 use Rattle.number.specs.Refusal.{Test, Answer, refused, given, answer, Numbered, numbered}
-use Rattle.watchfile.specs.Format.{DewRule, fileOf, recordTests, writing}
+use Rattle.bytes.specs.Lent.{sized, leftBy}
+use Rattle.watchfile.specs.Format.{DewRule, fileOf, recordTests, past, writing}
 use Rattle.watchfile.specs.declared.Record.{Record}
 use Rattle.writer.specs.declared.Written.{Written}
 use Rattle.writer.specs.declared.Written.the-variants as written
@@ -19,16 +19,6 @@ writtenAs (written.Done n) = given n
 writtenAs (written.BreaksRules i) = refused (numbered 16 (i ∷ []))
 writtenAs (written.TooShort n) = refused (numbered 17 (n ∷ []))
 
--- A good write answers with the number of the file's bytes.
-abbrev pub sized : Answer Numbered (List ℕ) → Answer Numbered ℕ
-sized (refused r) = refused r
-sized (given file) = given (length file)
-
--- "A successful write leaves bytes behind the file untouched."; a refused one leaves every byte
-abbrev pub leftBy : List ℕ → Answer Numbered (List ℕ) → List ℕ
-leftBy before (refused r) = before
-leftBy before (given file) = file ++ drop (length file) before
-
 -- A write of the first `count` records into the buffer `before`, which is `after` then, was answered by w.
 pub record Wrote (rule : ℕ → ℤ) (all : List Record) (count : ℕ) (before after : List ℕ) (w : Written) : Type 0 where
   pub answer : writtenAs w ≡ sized (writing rule all count (length before))
@@ -38,7 +28,7 @@ pub record Wrote (rule : ℕ → ℤ) (all : List Record) (count : ℕ) (before 
 
 abbrev pub rulesTests : (ℕ → ℤ) → List Record → ℕ → List (Test Numbered)
 rulesTests rule all count =
-    recordTests rule 0 0 (take count all) ++ (record { refusal = numbered 16 (48 ∷ []); holds = ltb 48 count } ∷ [])
+    recordTests rule 0 0 (take count all) ++ (past count ∷ [])
 
 abbrev pub checkedAs : Checked → Answer Numbered ℕ
 checkedAs (checked.Needs n) = given n

@@ -1,11 +1,11 @@
 -- What each call from C promises: the answer as it is told, and what is left in lent memory.
 use mathlib.Core.Path.{_≡_}
 use mathlib.Core.Bool.{Bool, cond}
-use mathlib.Core.List.{List, _++_}
+use mathlib.Core.List.{List}
 use Prim.Native.Nat.{ℕ}
 use lib.Dec.{ltb}
 use lib.IntN.{ℤ}
-use lib.ListN.{length, drop}
+use lib.ListN.{length}
 use Rattle.settings.specs.Settings.{checked}
 use Rattle.store.specs.Block.{openedBy, hearing, heardBy, outcome}
 use Rattle.station.specs.Source.{Source}
@@ -13,8 +13,8 @@ use Rattle.station.specs.Questions.{foreign}
 use Rattle.station.specs.Told.{pressureAs, tendencyAs, windAs, humidityAs, TellsPressure, TellsTendency, TellsWind, TellsHumidity}
 use Rattle.watchfile.specs.Format.{writing}
 use Rattle.watchfile.specs.declared.Record.{Record}
-use Rattle.writer.specs.Write.{sized, leftBy}
-use Rattle.listing.specs.Listing.{TEXT}
+use Rattle.bytes.specs.Lent.{sized, leftBy}
+use Rattle.listing.specs.Listing.{listing}
 use Rattle.told.specs.Told.{numberOf, pressureIn, tendencyIn, windIn, humidityIn}
 use Rattle.told.specs.Opening.{settingsIn}
 use Rattle.told.specs.declared.StoreSettings.{StoreSettings}
@@ -22,8 +22,9 @@ use Rattle.told.specs.declared.PressureTold.{PressureTold}
 use Rattle.told.specs.declared.TendencyTold.{TendencyTold}
 use Rattle.told.specs.declared.WindTold.{WindTold}
 use Rattle.told.specs.declared.HumidityTold.{HumidityTold}
-use Rattle.filed.specs.Files.{writeIn}
+use Rattle.filed.specs.Files.{writeIn, listIn}
 use Rattle.filed.specs.declared.WriteTold.{WriteTold}
+use Rattle.filed.specs.declared.ListTold.{ListTold}
 
 -- ---- opening and hearing
 
@@ -70,6 +71,6 @@ pub record WroteAs (rule : ℕ → ℤ) (all : List Record) (count : ℕ) (befor
   pub bytes : after ≡ leftBy before (writing rule all count (length before))
 
 -- The listing was to be put into the buffer `before`, which is `after` then, and r is the answer.
-pub record ListedAs (listing before after : List ℕ) (r : ℕ) : Type 0 where
-  pub answer : r ≡ cond (ltb (length before) TEXT) 0 (length listing)
-  pub bytes : after ≡ cond (ltb (length before) TEXT) before (listing ++ drop (length listing) before)
+pub record ListedAs (text before after : List ℕ) (r : ListTold) : Type 0 where
+  pub answer : r ≡ listIn (sized (listing text (length before)))
+  pub bytes : after ≡ leftBy before (listing text (length before))

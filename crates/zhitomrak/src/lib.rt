@@ -13,6 +13,7 @@ ghost use Rattle.zhitomrak.specs.Calls.{OpenedAs, HeardAs, PressureTells
 use block::Store;
 use filed::FileRecords;
 use filed::FileTold;
+use filed::ListTold;
 use filed::WriteTold;
 use told::HumidityTold;
 use told::PressureTold;
@@ -103,10 +104,10 @@ pub extern "C" fn zhitomrak_write(
     filed::write_told(writer::write(buffer, handed::records_of(all, count), count))
 }
 
-// Puts the listing of a watch file at the start of the lent bytes, and says how long it is: never 0. Or 0, and every byte stays,
-// where fewer bytes are lent than the longest listing has.
+// Puts the listing of a watch file at the start of the lent bytes, and says how long it is; or 17 with the bytes needed, and every
+// byte stays. A broken file is listed too, as document 01 says.
 #[no_mangle]
-pub extern "C" fn zhitomrak_list(file: &[u8], text: &mut [u8]) -> usize
+pub extern "C" fn zhitomrak_list(file: &[u8], text: &mut [u8]) -> ListTold
     ensures { λ r. ⌜ ((rule : ℕ → ℤ) → DewRule rule → ListedAs (listingOf (reading rule (now (file .entry)))) (now (text .entry)) (now (text .exit)) r) ⌝ }
 {
     filed::listed_told(listing::list(file, text))

@@ -112,6 +112,11 @@ pub fn bytes_of(records: &[Record]) -> Vec<u8> {
     file
 }
 
+/// So many bytes were laid.
+fn given(bytes: usize) -> Answer {
+    Answer::Given([bytes as i32, 0, 0, 0, 0])
+}
+
 /// Both write the first `count` records into room of so many bytes that are not zero: the answers and every byte.
 pub fn both_write(
     tally: &mut Tally,
@@ -123,7 +128,6 @@ pub fn both_write(
     let (mut a, mut b) = ([0xa5; 900], [0xa5; 900]);
     let mine: Vec<proved::Record> = records[..count].iter().map(to_proved).collect();
     let theirs: Vec<independent::Record> = records[..count].iter().map(to_independent).collect();
-    let given = |bytes: usize| Answer::Given([bytes as i32, 0, 0, 0, 0]);
     let told = (
         proved::write(&mine, &mut a[..room]).map_or_else(proved_refusal, given),
         independent::write(&theirs, &mut b[..room]).map_or_else(independent_refusal, given),
@@ -151,20 +155,26 @@ pub fn both_read(tally: &mut Tally, kind: &'static str, file: &[u8]) {
     tally.same(kind, b.is_err(), &a, &b, || format!("read {}", hex(file)));
 }
 
-/// Both list a file: the text; and the proved side leaves the bytes behind its own.
+/// Both list a file, the proved side into room for every listing, into just enough and into a byte less: the text, or the bytes
+/// needed, and every other byte stays.
 pub fn both_list(tally: &mut Tally, kind: &'static str, file: &[u8]) {
-    let mut a = [0xa5; proved::LISTING_ROOM];
     let mut b = [0; listing::LONGEST_LISTING];
-    let length = proved::list(file, &mut a).len();
     let theirs = listing::list(file, &mut b);
-    let refused = b.starts_with(b"refused");
-    tally.same(kind, refused, &a[..length], &b[..theirs], || {
-        format!("list {}", hex(file))
-    });
-    let behind = vec![0xa5; a.len() - length];
-    tally.same(kind, refused, &a[length..], &behind[..], || {
-        format!("list {}: the bytes behind the text", hex(file))
-    });
+    for room in [proved::LISTING_ROOM, theirs, theirs - 1] {
+        let input = || format!("list {} into {room} bytes", hex(file));
+        let mut a = [0xa5; proved::LISTING_ROOM];
+        let mut left = a;
+        let told = if room < theirs {
+            Answer::Refused(17, theirs, 0)
+        } else {
+            left[..theirs].copy_from_slice(&b[..theirs]);
+            given(theirs)
+        };
+        let listed = proved::list(file, &mut a[..room])
+            .map_or_else(proved_refusal, |text| given(text.len()));
+        tally.answers(kind, listed, told, input);
+        tally.same(kind, room < theirs, &a[..], &left[..], input);
+    }
 }
 
 /// A body that keeps its rules, often at a limit.

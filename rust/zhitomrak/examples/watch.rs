@@ -113,11 +113,14 @@ fn main() -> Result<(), Refused> {
     );
     let mut room = [0; LISTING_ROOM];
     let mut out = std::io::stdout();
-    out.write_all(watchfile::list(&file[..length], &mut room))
-        .unwrap();
+    if let Err(Refused::TooShort { bytes }) = watchfile::list(&file[..length], &mut room[..10]) {
+        println!("list: refused 17, {bytes} bytes needed");
+        out.write_all(watchfile::list(&file[..length], &mut room[..bytes])?)
+            .unwrap();
+    }
     // a damaged dew point
     file[length - 1] ^= 1;
-    out.write_all(watchfile::list(&file[..length], &mut room))
+    out.write_all(watchfile::list(&file[..length], &mut room)?)
         .unwrap();
     Ok(())
 }

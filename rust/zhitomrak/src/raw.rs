@@ -96,6 +96,12 @@ pub struct Written {
     pub bytes: usize,
 }
 
+#[repr(C)]
+pub struct Listed {
+    pub number: u32,
+    pub bytes: usize,
+}
+
 extern "C" {
     fn zhitomrak_open(store: *mut [u64; WORDS], settings: Settings) -> u32;
     fn zhitomrak_hear(store: *mut [u64; WORDS], message: *const u8, length: usize) -> u32;
@@ -105,7 +111,7 @@ extern "C" {
     fn zhitomrak_humidity(store: *const [u64; WORDS], minute: u32) -> Humidity;
     fn zhitomrak_read(file: *const u8, length: usize) -> File;
     fn zhitomrak_write(buffer: *mut u8, length: usize, records: Records, count: usize) -> Written;
-    fn zhitomrak_list(file: *const u8, length: usize, text: *mut u8, room: usize) -> usize;
+    fn zhitomrak_list(file: *const u8, length: usize, text: *mut u8, room: usize) -> Listed;
 }
 
 // A reference is not null, is aligned, and is to memory of its type's size; a slice's length is at most isize::MAX; a `&mut` is
@@ -152,6 +158,6 @@ pub fn write(buffer: &mut [u8], records: Records, count: usize) -> Written {
 }
 
 #[inline]
-pub fn list(file: &[u8], text: &mut [u8]) -> usize {
+pub fn list(file: &[u8], text: &mut [u8]) -> Listed {
     unsafe { zhitomrak_list(file.as_ptr(), file.len(), text.as_mut_ptr(), text.len()) }
 }

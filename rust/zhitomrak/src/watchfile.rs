@@ -10,7 +10,7 @@ use crate::store::{Humidity, Tendency, Wind};
 pub const MOST_RECORDS: usize = raw::RECORDS;
 /// The bytes of the longest file.
 pub const LONGEST_FILE: usize = 820;
-/// The bytes of room that a listing asks for.
+/// Bytes that are enough for the listing of any file.
 pub const LISTING_ROOM: usize = 2264;
 
 /// What a record says.
@@ -131,9 +131,12 @@ pub fn write(records: &[Record], buffer: &mut [u8]) -> Result<usize, Refused> {
     }
 }
 
-/// The listing of a watch file, in the lent room: a line for the file and one for each record, or one that says where it is broken.
-/// It is ASCII.
-pub fn list<'room>(file: &[u8], room: &'room mut [u8; LISTING_ROOM]) -> &'room [u8] {
-    let length = raw::list(file, room);
-    &room[..length]
+/// The listing of a watch file, at the start of the lent room: a line for the file and one for each record, or one that says where
+/// it is broken. It is ASCII. Or [`Refused::TooShort`], and every byte of the room stays.
+pub fn list<'room>(file: &[u8], room: &'room mut [u8]) -> Result<&'room [u8], Refused> {
+    let told = raw::list(file, room);
+    if told.number != 0 {
+        return Err(Refused::TooShort { bytes: told.bytes });
+    }
+    Ok(&room[..told.bytes])
 }

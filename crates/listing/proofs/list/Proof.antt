@@ -1,32 +1,40 @@
--- `list` meets its contract: with room for any listing it puts the lines of what was read, and else nothing. Assumes nothing.
-use mathlib.Core.Path.{sym, ap, _∙_}
+-- `list` meets its contract: the listing, put whole into room for every listing, is put from there into the lent bytes where they
+-- are enough. Assumes nothing.
 use native.Mathlib.Omega.{arith}
+use lib.ListN.{length-take}
 use Rattle.watchfile.proofs.DewRules.{the-rule}
-use Rattle.reader.specs.Read.{verdictAs}
-use Rattle.listing.proofs.ListLaws.{good-count, too-short, good-lists, broken-lists}
+use Rattle.text.proofs.PutLaws.{put-inside}
+use Rattle.listing.proofs.FitLaws.{listing-fits}
+use Rattle.listing.proofs.ListLaws.{lists-none, lists-all}
 use borrow.Author.Needs.{needs}
 use Rattle.listing.proofs.list.Statement.{statement}
 use Rattle.listing.proofs.list.Tie as tie
 
+slice-aggregate-put-file : tie.Need-slice-aggregate-put-file
+slice-aggregate-put-file c = search needs
+
+put-file-requires : tie.Need-put-file-requires
+put-file-requires c κs = search needs
+
 returns : tie.Need-returns
-returns c = λ rule ruled. too-short (c .before .before .before .args .text .now) _ (omega arith)
+returns c =
+    λ rule ruled.
+    let s = c .before .before .before .before .before .before .args in
+    let fits = listing-fits rule (s .file .now) (λ i. c .before .before .before .before .before .shared-slice-known .given i .fits) (omega arith) in
+    lists-none fits (c .before .before .put-file .ensures rule ruled) (c .if1 .taken)
 
-read-requires : tie.Need-read-requires
-read-requires c κs = search needs
+array-share-prefix-whole : tie.Need-array-share-prefix-whole
+array-share-prefix-whole c =
+    let inside = put-inside (c .before .before .before .put-file .ensures (the-rule .0) (the-rule .1)) in
+    omega arith
 
-enum-known-verdict : tie.Need-enum-known-verdict
-enum-known-verdict c = search needs
+slice-aggregate-put-bytes : tie.Need-slice-aggregate-put-bytes
+slice-aggregate-put-bytes c =
+    let inside = put-inside (c .before .before .before .before .put-file .ensures (the-rule .0) (the-rule .1)) in
+    omega (arith, length-take (c .before .before .before .before .put-file .result) (c .before .before .before .before .put-file .last .0))
 
-put-listing-requires : tie.Need-put-listing-requires
-put-listing-requires c κs =
-    let h = c .before .before .before .before .before .read .ensures (the-rule .0) (the-rule .1) in
-    good-count (the-rule .0) (c .before .before .before .before .before .before .before .before .before .args .file .now) _ _ (sym (h .verdict) ∙ ap verdictAs (c .before .before .verdict .given .1)) (h .records)
-
-enum-known-verdict-2 : tie.Need-enum-known-verdict-2
-enum-known-verdict-2 c = search needs
-
-put-refusal-requires : tie.Need-put-refusal-requires
-put-refusal-requires c κs = search needs
+put-bytes-requires : tie.Need-put-bytes-requires
+put-bytes-requires c κs = search needs
 
 same-length : tie.Need-same-length
 same-length c = search needs
@@ -34,33 +42,19 @@ same-length c = search needs
 returns-2 : tie.Need-returns-2
 returns-2 c =
     λ rule ruled.
-    let s = c .before .before .before .before .before .before .before .before .before .before .before .before in
-    let h = c .before .before .before .before .before .before .before .before .read .ensures rule ruled in
-    good-lists (s .args .text .now) rule (s .args .file .now) (λ i. c .before .before .before .before .before .before .before .before .before .before .before .shared-slice-known .given i .fits) (omega arith) (omega arith)
-    (sym (h .verdict) ∙ ap verdictAs (c .before .before .before .before .before .verdict .given .1)) (h .records) (c .before .before .put-listing .ensures)
-
-same-length-2 : tie.Need-same-length-2
-same-length-2 c = search needs
-
-returns-3 : tie.Need-returns-3
-returns-3 c =
-    λ rule ruled.
-    let s = c .before .before .before .before .before .before .before .before .before .before .before .before in
-    let h = c .before .before .before .before .before .before .before .before .read .ensures rule ruled in
-    broken-lists (s .args .text .now) rule (s .args .file .now) (λ i. c .before .before .before .before .before .before .before .before .before .before .before .shared-slice-known .given i .fits) (omega arith) (omega arith)
-    (sym (h .verdict) ∙ ap verdictAs (c .before .before .before .before .before .verdict2 .given .1)) (c .before .before .put-refusal .ensures)
+    let s = c .before .before .before .before .before .before .before .before .before .before .before .args in
+    let fits = listing-fits rule (s .file .now) (λ i. c .before .before .before .before .before .before .before .before .before .before .shared-slice-known .given i .fits) (omega arith) in
+    lists-all fits (c .before .before .before .before .before .before .before .put-file .ensures rule ruled) (c .before .before .before .before .before .if1 .left) (c .before .before .put-bytes .ensures)
 
 pub list-spec : {M : Type 1} → statement M
 list-spec =
     tie.close
     (tie.spec
+    slice-aggregate-put-file
+    put-file-requires
     returns
-    read-requires
-    enum-known-verdict
-    put-listing-requires
-    enum-known-verdict-2
-    put-refusal-requires
+    array-share-prefix-whole
+    slice-aggregate-put-bytes
+    put-bytes-requires
     same-length
-    returns-2
-    same-length-2
-    returns-3)
+    returns-2)

@@ -10,11 +10,11 @@ use borrow.Author.Needs.{needs}
 use borrow.Author.Tests.{not-true, not-false}
 use Rattle.number.specs.Refusal.{answer}
 use Rattle.watchfile.specs.Rules.{sizeOf, rank}
-use Rattle.watchfile.specs.Format.{DewRule, kindOf, bodiesBytes, fileOf, recordTests}
+use Rattle.watchfile.specs.Format.{DewRule, kindOf, bodiesBytes, fileOf, recordTests, past}
 use Rattle.writer.specs.Write.{rulesTests}
 use Rattle.writer.proofs.SizeLaws.{size-most, length-file}
 use Rattle.writer.proofs.RestLaws.{rest, at, rest-whole, rest-done, rest-past, rest-shorter, bodies-shorter, bodies-none, tests-on, tests-stop, tests-none}
-use Rattle.writer.proofs.WriteLaws.{past, past-stops, past-goes-on}
+use Rattle.writer.proofs.WriteLaws.{past-stops, past-goes-on}
 use Rattle.writer.proofs.check.Statement.{statement}
 use Rattle.writer.proofs.check.Tie as tie
 

@@ -53,7 +53,7 @@ fn main() {
     let length = watchfile::write(&records, &mut file).unwrap_or(0);
     let read = watchfile::read(&file[..length]).map_or(0, |r| r.len() as u8);
     let mut room = [0; watchfile::LISTING_ROOM];
-    let text = watchfile::list(&file[..length], &mut room);
+    let text = watchfile::list(&file[..length], &mut room).unwrap_or(b"");
     std::io::stdout().write_all(text).unwrap();
     std::io::stdout().write_all(&[read]).unwrap();
 }
