@@ -19,10 +19,12 @@ use Rattle.quantity.proofs.SingleAnswers as quantity
 use Rattle.quantity.proofs.BarometerUnit.holds.Reads as quantity-BarometerUnit-holds
 use Rattle.quantity.proofs.Hectopascals.holds.Reads as quantity-Hectopascals-holds
 use Rattle.quantity.proofs.Hectopascals.recorded.Reads as quantity-Hectopascals-recorded
+use Rattle.quantity.proofs.Hectopascals.changes.Reads as quantity-Hectopascals-changes
 use Rattle.quantity.proofs.Millimetres.holds.Reads as quantity-Millimetres-holds
 use Rattle.quantity.proofs.WheelhouseTemperature.holds.Reads as quantity-WheelhouseTemperature-holds
 use Rattle.quantity.proofs.BulbTemperature.holds.Reads as quantity-BulbTemperature-holds
 use Rattle.quantity.proofs.MetresPerSecond.holds.Reads as quantity-MetresPerSecond-holds
+use Rattle.quantity.proofs.MetresPerSecond.blows.Reads as quantity-MetresPerSecond-blows
 use Rattle.quantity.proofs.Knots.holds.Reads as quantity-Knots-holds
 use Rattle.quantity.proofs.Degrees.holds.Reads as quantity-Degrees-holds
 use Rattle.quantity.proofs.Minute.holds.Reads as quantity-Minute-holds
@@ -30,8 +32,16 @@ use Rattle.quantity.proofs.Millimetres.hectopascals.Reads as quantity-Millimetr
 use Rattle.quantity.proofs.MetresPerSecond.parts.Reads as quantity-MetresPerSecond-parts
 use Rattle.quantity.proofs.Knots.parts.Reads as quantity-Knots-parts
 use Rattle.quantity.proofs.Degrees.keep.Reads as quantity-Degrees-keep
+use Rattle.bytes.proofs.SingleAnswers as bytes
+use Rattle.bytes.proofs.two.Reads as bytes-two
+use Rattle.bytes.proofs.four.Reads as bytes-four
+use Rattle.bytes.proofs.in_two.Reads as bytes-in-two
+use Rattle.bytes.proofs.in_four.Reads as bytes-in-four
+use Rattle.bytes.proofs.signed.Reads as bytes-signed
+use Rattle.bytes.proofs.unsigned.Reads as bytes-unsigned
 use Rattle.wire.proofs.SingleAnswers as wire
 use Rattle.wire.proofs.decode.Reads as wire-decode
+use Rattle.wire.proofs.number.Reads as wire-number
 use Rattle.message.proofs.SingleAnswers as message
 use Rattle.message.proofs.receive.Reads as message-receive
 use Rattle.settings.proofs.SingleAnswers as settings
@@ -41,6 +51,7 @@ use Rattle.settings.proofs.TemperatureCoefficient.holds.Reads as settings-Tempe
 use Rattle.settings.proofs.PsychrometerCoefficient.holds.Reads as settings-PsychrometerCoefficient-holds
 use Rattle.settings.proofs.Correction.holds.Reads as settings-Correction-holds
 use Rattle.settings.proofs.check.Reads as settings-check
+use Rattle.settings.proofs.number.Reads as settings-number
 use Rattle.window.proofs.SingleAnswers as window
 use Rattle.window.proofs.accept.Reads as window-accept
 use Rattle.window.proofs.find.Reads as window-find
@@ -52,7 +63,7 @@ use Rattle.cell.proofs.cell_of.Reads as cell-cell-of
 use Rattle.cell.proofs.reading_in.Reads as cell-reading-in
 use Rattle.block.proofs.SingleAnswers as block
 use Rattle.block.proofs.lay.Reads as block-lay
-use Rattle.block.proofs.unit_in.Reads as block-unit-in
+use Rattle.block.proofs.is_store.Reads as block-is-store
 use Rattle.block.proofs.unit.Reads as block-unit
 use Rattle.block.proofs.height.Reads as block-height
 use Rattle.block.proofs.difference.Reads as block-difference
@@ -65,10 +76,8 @@ use Rattle.store.proofs.«open».Reads as store-open
 use Rattle.store.proofs.hear.Reads as store-hear
 use Rattle.store.proofs.recall.Reads as store-recall
 use Rattle.store.proofs.missing_minutes.Reads as store-missing-minutes
+use Rattle.store.proofs.number.Reads as store-number
 use Rattle.pressure.proofs.SingleAnswers as pressure
-use Rattle.pressure.proofs.scale_correction.Reads as pressure-scale-correction
-use Rattle.pressure.proofs.temperature_correction.Reads as pressure-temperature-correction
-use Rattle.pressure.proofs.height_correction.Reads as pressure-height-correction
 use Rattle.pressure.proofs.sea_level_pressure.Reads as pressure-sea-level-pressure
 use Rattle.pressure.proofs.station_pressure.Reads as pressure-station-pressure
 use Rattle.sine.proofs.SingleAnswers as sine
@@ -80,6 +89,9 @@ use Rattle.wind.proofs.true_wind.Reads as wind-true-wind
 use Rattle.vapour.proofs.SingleAnswers as vapour
 use Rattle.vapour.proofs.saturation.Reads as vapour-saturation
 use Rattle.vapour.proofs.dew_point.Reads as vapour-dew-point
+use Rattle.vapour.proofs.VapourPressure.holds.Reads as vapour-VapourPressure-holds
+use Rattle.vapour.proofs.relative_humidity.Reads as vapour-relative-humidity
+use Rattle.vapour.proofs.deficit.Reads as vapour-deficit
 use Rattle.humidity.proofs.SingleAnswers as humidity
 use Rattle.humidity.proofs.humidity.Reads as humidity-humidity
 use Rattle.station.proofs.SingleAnswers as station
@@ -89,6 +101,7 @@ use Rattle.station.proofs.pressure.Reads as station-pressure
 use Rattle.station.proofs.tendency.Reads as station-tendency
 use Rattle.station.proofs.wind.Reads as station-wind
 use Rattle.station.proofs.humidity.Reads as station-humidity
+use Rattle.station.proofs.number.Reads as station-number
 use Rattle.watchfile.proofs.SingleAnswers as watchfile
 use Rattle.watchfile.proofs.Body.kind.Reads as watchfile-Body-kind
 use Rattle.watchfile.proofs.size_of.Reads as watchfile-size-of
@@ -202,10 +215,12 @@ pub record OneAnswerEach : Type 0 where
   pub quantity-BarometerUnit-holds-single : Single quantity-BarometerUnit-holds.Post
   pub quantity-Hectopascals-holds-single : Single quantity-Hectopascals-holds.Post
   pub quantity-Hectopascals-recorded-single : Single quantity-Hectopascals-recorded.Post
+  pub quantity-Hectopascals-changes-single : Single quantity-Hectopascals-changes.Post
   pub quantity-Millimetres-holds-single : Single quantity-Millimetres-holds.Post
   pub quantity-WheelhouseTemperature-holds-single : Single quantity-WheelhouseTemperature-holds.Post
   pub quantity-BulbTemperature-holds-single : Single quantity-BulbTemperature-holds.Post
   pub quantity-MetresPerSecond-holds-single : Single quantity-MetresPerSecond-holds.Post
+  pub quantity-MetresPerSecond-blows-single : Single quantity-MetresPerSecond-blows.Post
   pub quantity-Knots-holds-single : Single quantity-Knots-holds.Post
   pub quantity-Degrees-holds-single : Single quantity-Degrees-holds.Post
   pub quantity-Minute-holds-single : Single quantity-Minute-holds.Post
@@ -214,7 +229,14 @@ pub record OneAnswerEach : Type 0 where
   pub quantity-Knots-parts-single : Single quantity-Knots-parts.Post
   pub quantity-Degrees-keep-single : Single quantity-Degrees-keep.Post
   -- wire
+  pub bytes-two-single : Single bytes-two.Post
+  pub bytes-four-single : Single bytes-four.Post
+  pub bytes-in-two-single : Single bytes-in-two.Post
+  pub bytes-in-four-single : Single bytes-in-four.Post
+  pub bytes-signed-single : Single bytes-signed.Post
+  pub bytes-unsigned-single : Single bytes-unsigned.Post
   pub wire-decode-single : Single wire-decode.Post
+  pub wire-number-single : Single wire-number.Post
   -- message
   pub message-receive-single : Single message-receive.Post
   -- settings
@@ -224,6 +246,7 @@ pub record OneAnswerEach : Type 0 where
   pub settings-PsychrometerCoefficient-holds-single : Single settings-PsychrometerCoefficient-holds.Post
   pub settings-Correction-holds-single : Single settings-Correction-holds.Post
   pub settings-check-single : Single settings-check.Post
+  pub settings-number-single : Single settings-number.Post
   -- window
   pub window-accept-single : Single window-accept.Post
   pub window-accept-left : SingleLeft window-accept.Post (λ κs s. s .0 .now)
@@ -237,7 +260,7 @@ pub record OneAnswerEach : Type 0 where
   -- block
   pub block-lay-single : Single block-lay.Post
   pub block-lay-left : SingleLeft block-lay.Post (λ κs s. s .0 .now)
-  pub block-unit-in-single : Single block-unit-in.Post
+  pub block-is-store-single : Single block-is-store.Post
   pub block-unit-single : Single block-unit.Post
   pub block-height-single : Single block-height.Post
   pub block-difference-single : Single block-difference.Post
@@ -252,10 +275,8 @@ pub record OneAnswerEach : Type 0 where
   pub store-hear-left : SingleLeft store-hear.Post (λ κs s. s .0 .now)
   pub store-recall-single : Single store-recall.Post
   pub store-missing-minutes-single : Single store-missing-minutes.Post
+  pub store-number-single : Single store-number.Post
   -- pressure
-  pub pressure-scale-correction-single : Single pressure-scale-correction.Post
-  pub pressure-temperature-correction-single : Single pressure-temperature-correction.Post
-  pub pressure-height-correction-single : Single pressure-height-correction.Post
   pub pressure-sea-level-pressure-single : Single pressure-sea-level-pressure.Post
   pub pressure-station-pressure-single : Single pressure-station-pressure.Post
   -- sine
@@ -267,6 +288,9 @@ pub record OneAnswerEach : Type 0 where
   -- vapour
   pub vapour-saturation-single : Single vapour-saturation.Post
   pub vapour-dew-point-single : Single vapour-dew-point.Post
+  pub vapour-VapourPressure-holds-single : Single vapour-VapourPressure-holds.Post
+  pub vapour-relative-humidity-single : Single vapour-relative-humidity.Post
+  pub vapour-deficit-single : Single vapour-deficit.Post
   -- humidity
   pub humidity-humidity-single : Single humidity-humidity.Post
   -- station
@@ -278,6 +302,7 @@ pub record OneAnswerEach : Type 0 where
   pub station-tendency-single : Single station-tendency.Post
   pub station-wind-single : Single station-wind.Post
   pub station-humidity-single : Single station-humidity.Post
+  pub station-number-single : Single station-number.Post
   -- watchfile
   pub watchfile-Body-kind-single : Single watchfile-Body-kind.Post
   pub watchfile-size-of-single : Single watchfile-size-of.Post
@@ -421,10 +446,12 @@ one-answer-each =
       quantity-BarometerUnit-holds-single = quantity.single-barometer-unit;
       quantity-Hectopascals-holds-single = quantity.single-hectopascals;
       quantity-Hectopascals-recorded-single = quantity.single-recorded;
+      quantity-Hectopascals-changes-single = quantity.single-changes;
       quantity-Millimetres-holds-single = quantity.single-millimetres;
       quantity-WheelhouseTemperature-holds-single = quantity.single-wheelhouse-temperature;
       quantity-BulbTemperature-holds-single = quantity.single-bulb-temperature;
       quantity-MetresPerSecond-holds-single = quantity.single-metres-per-second;
+      quantity-MetresPerSecond-blows-single = quantity.single-blows;
       quantity-Knots-holds-single = quantity.single-knots;
       quantity-Degrees-holds-single = quantity.single-degrees;
       quantity-Minute-holds-single = quantity.single-minute;
@@ -432,7 +459,14 @@ one-answer-each =
       quantity-MetresPerSecond-parts-single = quantity.single-metres-parts;
       quantity-Knots-parts-single = quantity.single-knots-parts;
       quantity-Degrees-keep-single = quantity.single-degrees-keep;
+      bytes-two-single = bytes.single-two;
+      bytes-four-single = bytes.single-four;
+      bytes-in-two-single = bytes.single-in-two;
+      bytes-in-four-single = bytes.single-in-four;
+      bytes-signed-single = bytes.single-signed;
+      bytes-unsigned-single = bytes.single-unsigned;
       wire-decode-single = wire.single-decode;
+      wire-number-single = wire.single-number;
       message-receive-single = message.single-receive;
       settings-Height-holds-single = settings.single-height;
       settings-SeaLevelDifference-holds-single = settings.single-difference;
@@ -440,6 +474,7 @@ one-answer-each =
       settings-PsychrometerCoefficient-holds-single = settings.single-psychrometer;
       settings-Correction-holds-single = settings.single-correction;
       settings-check-single = settings.single-check;
+      settings-number-single = settings.single-number;
       window-accept-single = window.single-accept;
       window-accept-left = window.single-accept-words;
       window-find-single = window.single-find;
@@ -450,7 +485,7 @@ one-answer-each =
       cell-reading-in-single = cell.single-reading-in;
       block-lay-single = block.single-lay;
       block-lay-left = block.single-lay-left;
-      block-unit-in-single = block.single-unit-in;
+      block-is-store-single = block.single-is-store;
       block-unit-single = block.single-unit;
       block-height-single = block.single-height;
       block-difference-single = block.single-difference;
@@ -464,9 +499,7 @@ one-answer-each =
       store-hear-left = store.single-hear-left;
       store-recall-single = store.single-recall;
       store-missing-minutes-single = store.single-missing-minutes;
-      pressure-scale-correction-single = pressure.single-scale-correction;
-      pressure-temperature-correction-single = pressure.single-temperature-correction;
-      pressure-height-correction-single = pressure.single-height-correction;
+      store-number-single = store.single-number;
       pressure-sea-level-pressure-single = pressure.single-sea-level-pressure;
       pressure-station-pressure-single = pressure.single-station-pressure;
       sine-entry-single = sine.single-entry;
@@ -475,6 +508,9 @@ one-answer-each =
       wind-true-wind-single = wind.single-true-wind;
       vapour-saturation-single = vapour.single-saturation;
       vapour-dew-point-single = vapour.single-dew-point;
+      vapour-VapourPressure-holds-single = vapour.single-vapour-pressure;
+      vapour-relative-humidity-single = vapour.single-relative-humidity;
+      vapour-deficit-single = vapour.single-deficit;
       humidity-humidity-single = humidity.single-humidity;
       station-open-single = station.single-open;
       station-open-left = station.single-open-left;
@@ -484,6 +520,7 @@ one-answer-each =
       station-tendency-single = station.single-tendency;
       station-wind-single = station.single-wind-answer;
       station-humidity-single = station.single-humidity;
+      station-number-single = station.single-number;
       watchfile-Body-kind-single = watchfile.single-kind;
       watchfile-size-of-single = watchfile.single-size-of;
       watchfile-rank-single = watchfile.single-rank;
