@@ -11,11 +11,17 @@ use native.Mathlib.Nat.{not-suc-le-zero, le-of-suc-le-suc}
 use lib.Dec.{T, ltb, ltb→lt}
 use lib.Ieee.Fits.{and-l, and-r}
 use Rattle.number.specs.Refusal.{Test, Answer, refused, given, answer, HoldsAt, Holds, NoneBefore, First, NoneBelow, inOrder}
+use Rattle.number.proofs.Sizes.{impossible}
+
+-- a refusal is not what is given
+pub refused-not-given : {R A B : Type 0} {r : R} {a : A} → _≡_ {A = Answer R A} (refused r) (given a) → B
+refused-not-given e = impossible (cc)
+
+-- nor the other way round
+pub given-not-refused : {R A B : Type 0} {r : R} {a : A} → _≡_ {A = Answer R A} (given a) (refused r) → B
+given-not-refused e = refused-not-given (sym e)
 
 module _ {R A : Type 0} (a : A) where
-  not-both : (r : R) → _≡_ {A = Answer R A} (given a) (refused r) → ⊥
-  not-both r e = let z : _≡_ {A = ℕ} 0 1 = cc in omega arith
-
   -- ---- by place: the order in which the tests stand
 
   more-before : (t : Test R) (ts : List (Test R)) (place : ℕ) → t .holds ≡ false → NoneBefore ts place → NoneBefore (t ∷ ts) (suc place)
@@ -31,7 +37,7 @@ module _ {R A : Type 0} (a : A) where
 
   pub refused-then : (ts : List (Test R)) (r : R) → answer ts a ≡ refused r → First ts r
   unfolding answer
-  refused-then [] r e = absurd (not-both r e)
+  refused-then [] r e = given-not-refused e
   refused-then (t ∷ ts) r e = refused-here t ts r (t .holds) refl (refused-then ts r) e
 
   pub then-refused : (ts : List (Test R)) (r : R) (place : ℕ) → HoldsAt ts place r → NoneBefore ts place → answer ts a ≡ refused r
@@ -59,7 +65,7 @@ module _ {R A : Type 0} (a : A) where
   given-then (t ∷ ts) e r w = go (t .holds) refl (w .0) (w .1) (given-then ts)
     where
       go : (b : Bool) → t .holds ≡ b → (place : ℕ) → HoldsAt (t ∷ ts) place r → (answer ts a ≡ given a → (r : R) → Holds ts r → ⊥) → ⊥
-      go true h place k rest = not-both (t .refusal) (sym (rw h at e))
+      go true h place k rest = refused-not-given (rw h at e)
       go false h zero k rest = subst T h (k .0)
       go false h (suc place) k rest = rest (rw h at e) r (place, k)
 
@@ -80,7 +86,7 @@ module _ {R A : Type 0} (a : A) where
 -- what the first list refuses stays refused
 pub refused-stays : {R A B : Type 0} (ts us : List (Test R)) (a : A) (b : B) (r : R) → answer ts a ≡ refused r → answer (ts ++ us) b ≡ refused r
 unfolding answer
-refused-stays [] us a b r e = absurd (not-both a r e)
+refused-stays [] us a b r e = given-not-refused e
 refused-stays (t ∷ ts) us a b r e = go (t .holds) refl (refused-stays ts us a b r)
   where
     go : (h : Bool) → t .holds ≡ h → (answer ts a ≡ refused r → answer (ts ++ us) b ≡ refused r) → answer (t ∷ ts ++ us) b ≡ refused r
@@ -94,7 +100,7 @@ given-goes-on [] us a x b e = refl
 given-goes-on (t ∷ ts) us a x b e = go (t .holds) refl (given-goes-on ts us a x b)
   where
     go : (h : Bool) → t .holds ≡ h → (answer ts a ≡ given x → answer (ts ++ us) b ≡ answer us b) → answer (t ∷ ts ++ us) b ≡ answer us b
-    go true h rest = absurd (not-both x (t .refusal) (sym (rw h at e)))
+    go true h rest = refused-not-given (rw h at e)
     go false h rest = rw h (rest (rw h at e))
 
 -- what is given is what was asked for
@@ -104,7 +110,7 @@ given-is [] a x e = cc
 given-is (t ∷ ts) a x e = go (t .holds) refl (given-is ts a x)
   where
     go : (h : Bool) → t .holds ≡ h → (answer ts a ≡ given x → a ≡ x) → a ≡ x
-    go true h rest = absurd (not-both x (t .refusal) (sym (rw h at e)))
+    go true h rest = refused-not-given (rw h at e)
     go false h rest = rest (rw h at e)
 
 -- ---- by number: the tests stand in number order

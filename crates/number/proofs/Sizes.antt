@@ -1,4 +1,4 @@
--- The sizes of signed numbers, as naturals that omega reads. Assumes nothing.
+-- The sizes of signed numbers, as naturals that omega reads, and what a range says of the number. Assumes nothing.
 use mathlib.Core.Path.{_≡_, refl}
 use mathlib.Core.Bool.{Bool, true, false, _&&_}
 use Prim.Native.Nat.{ℕ, zero, suc, _+_, _*_, _≤_, _<_}
@@ -41,14 +41,21 @@ size-mul (pos a) (negsuc b) = size-neg (pos (a * suc b))
 size-mul (negsuc a) (pos b) = size-neg (pos (suc a * b))
 size-mul (negsuc a) (negsuc b) = refl
 
--- ---- what a range says of the number
+-- ---- what can not be
 
-no : false ≡ true → ⊥
-no e = let z : _≡_ {A = ℕ} 0 1 = cc in omega arith
+-- two constructors are never equal: of an equation that says so, cc makes this one
+pub impossible : {A : Type 0} → _≡_ {A = ℕ} 0 1 → A
+impossible e = absurd (omega arith)
+
+-- false is not true
+pub never : {A : Type 0} → false ≡ true → A
+never e = impossible (cc)
+
+-- ---- what a range says of the number
 
 pub and-true : (a b : Bool) → (a && b) ≡ true → (a ≡ true) × (b ≡ true)
 and-true true b e = (refl, e)
-and-true false b e = absurd (no e)
+and-true false b e = never e
 
 -- no larger than the larger limit
 pub within-size : (low high z : ℤ) (k : ℕ) → natAbs low ≤ k → natAbs high ≤ k → within low high z ≡ true → natAbs z ≤ k
@@ -56,8 +63,8 @@ within-size low high z k l h e = go low high z l h (and-true (leZ low z) (leZ z 
   where
     go : (low high z : ℤ) → natAbs low ≤ k → natAbs high ≤ k → (leZ low z ≡ true) × (leZ z high ≡ true) → natAbs z ≤ k
     go low (pos h) (pos n) l b e = omega (arith, leb-true n h (e .1))
-    go low (negsuc h) (pos n) l b e = absurd (no (e .1))
-    go (pos l) high (negsuc n) b h e = absurd (no (e .0))
+    go low (negsuc h) (pos n) l b e = never (e .1)
+    go (pos l) high (negsuc n) b h e = never (e .0)
     go (negsuc l) high (negsuc n) b h e = omega (arith, leb-true n l (e .0))
 
 -- what is larger lies without
@@ -71,4 +78,4 @@ without low high z k l h b = go (within low high z) refl
 -- from 0 on a number is its size
 pub natural : (low : ℕ) (high z : ℤ) → within (pos low) high z ≡ true → pos (natAbs z) ≡ z
 natural low high (pos n) e = refl
-natural low high (negsuc n) e = absurd (no (and-true false (leZ (negsuc n) high) e .0))
+natural low high (negsuc n) e = never e

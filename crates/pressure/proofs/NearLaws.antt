@@ -10,7 +10,7 @@ use lib.Signed.{leZ}
 use borrow.Author.Tests.{ltb-true, ltb-false, le-leb, leb-true, le-ltb}
 use Rattle.number.specs.Whole.{within}
 use Rattle.number.specs.Round.{nearest, rounded}
-use Rattle.number.proofs.Sizes.{and-true}
+use Rattle.number.proofs.Sizes.{never, and-true}
 use Rattle.number.proofs.RoundLaws.{nearest-monotone}
 use Rattle.quantity.specs.Limits.{inside, pressureLimits, recordedPressure}
 use Rattle.quantity.specs.declared.BarometerUnit.{BarometerUnit}
@@ -49,7 +49,7 @@ reading low high z i = go z i
     go (pos n) i =
         let b = and-true (leZ (pos low) (pos n)) (leZ (pos n) (pos high)) i in
         record { figure = n; is = refl; from = leb-true low n (b .0); to = leb-true n high (b .1) }
-    go (negsuc n) i = let z : _≡_ {A = ℕ} 0 1 = cc in absurd (omega arith)
+    go (negsuc n) i = never i
 
 -- times 1.3332: the limits are converted as well
 converted : {low high : ℕ} (z : ℤ) → Among low high z → Among (nearest (low * 13332) 10000) (nearest (high * 13332) 10000) (toHectopascals Millimetres z)

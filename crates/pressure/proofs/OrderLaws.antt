@@ -9,6 +9,7 @@ use lib.Dec.{leb, ltb}
 use lib.IntN.{ℤ, pos, negsuc, _-ℤ_}
 use lib.Signed.{leZ, ltZ}
 use borrow.Author.Tests.{ltb-true, ltb-false, leb-true, leb-false, le-leb, lt-leb, le-ltb}
+use Rattle.number.proofs.Sizes.{never}
 
 unfoldable pub up : ℤ → ℕ
 up (pos n) = n
@@ -17,9 +18,6 @@ up (negsuc n) = 0
 unfoldable pub down : ℤ → ℕ
 down (pos n) = 0
 down (negsuc n) = suc n
-
-pub never : false ≡ true → ⊥
-never e = let z : _≡_ {A = ℕ} 0 1 = cc in omega arith
 
 less : (a b : ℕ) → ltb a b ≡ not (leb b a)
 less a b = go (ltb a b) refl
@@ -31,7 +29,7 @@ less a b = go (ltb a b) refl
 pub at-most : (x y : ℤ) → leZ x y ≡ true → up x + down y ≤ up y + down x
 unfolding up down
 at-most (pos a) (pos b) e = omega (arith, leb-true a b e)
-at-most (pos a) (negsuc b) e = absurd (never e)
+at-most (pos a) (negsuc b) e = never e
 at-most (negsuc a) (pos b) e = omega arith
 at-most (negsuc a) (negsuc b) e = omega (arith, leb-true b a e)
 
@@ -46,7 +44,7 @@ pub above : (x y : ℤ) → leZ x y ≡ false → up y + down x < up x + down y
 unfolding up down
 above (pos a) (pos b) e = omega (arith, leb-false a b e)
 above (pos a) (negsuc b) e = omega arith
-above (negsuc a) (pos b) e = absurd (never (sym e))
+above (negsuc a) (pos b) e = never (sym e)
 above (negsuc a) (negsuc b) e = omega (arith, leb-false b a e)
 
 -- x below y, as the other test says it
@@ -77,7 +75,7 @@ apart (pos zero) (pos b) e = (b, record { less = ap pos (add-zero b); far = omeg
 apart (pos (suc a)) (pos b) e =
     let h = leb-true (suc a) b e in
     (b - suc a, record { less = rw (le-ltb b (suc a) h); far = omega arith })
-apart (pos a) (negsuc b) e = absurd (never e)
+apart (pos a) (negsuc b) e = never e
 apart (negsuc a) (pos b) e = (b + suc a, record { less = refl; far = omega arith })
 apart (negsuc a) (negsuc b) e =
     let h = leb-true b a e in

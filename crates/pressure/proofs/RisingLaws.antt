@@ -12,11 +12,12 @@ use lib.IntN.{ℤ}
 use lib.Signed.{leZ}
 use borrow.Author.Tests.{not-true}
 use Rattle.number.specs.Whole.{within}
+use Rattle.number.proofs.Sizes.{never}
 use Rattle.settings.specs.Settings.{every, rises}
 use Rattle.settings.specs.declared.Point.{Point}
 use Rattle.settings.proofs.EveryLaws.{every-at}
 use Rattle.pressure.specs.Pressure.{around, between, scaleFrom}
-use Rattle.pressure.proofs.OrderLaws.{up, down, never, at-most, is-at-most, above, same}
+use Rattle.pressure.proofs.OrderLaws.{up, down, at-most, is-at-most, above, same}
 use Rattle.pressure.proofs.LineLaws.{round, round-back, at-low, at-high}
 
 -- what passes at each place passes at all
@@ -88,7 +89,7 @@ module _ (point : ℕ → Point) (n : ℕ) (rise : (k : ℕ) → k < n → rises
       go false e (yes d) rest = rw e (rest (omega arith))
       go false e (no d) rest =
           let same-place : k ≡ i = omega arith in
-          absurd (never (sym e ∙ ap (λ (j : ℕ). around (point j) (point (j + 1)) r) same-place ∙ a))
+          never (sym e ∙ ap (λ (j : ℕ). around (point j) (point (j + 1)) r) same-place ∙ a)
 
   -- ---- at a point
 
@@ -117,7 +118,7 @@ module _ (point : ℕ → Point) (n : ℕ) (rise : (k : ℕ) → k < n → rises
   not-outside r i h a = go (every (passes r) 0 n) refl
     where
       go : (t : Bool) → every (passes r) 0 n ≡ t → every (passes r) 0 n ≡ false
-      go true e = absurd (never (sym (ap not a) ∙ ap (passes r) (sym (zero-add i)) ∙ every-at (passes r) 0 n i e h))
+      go true e = never (sym (ap not a) ∙ ap (passes r) (sym (zero-add i)) ∙ every-at (passes r) 0 n i e h)
       go false e = e
 
   -- from the first point on, a reading that no pair stands round is passed over by each
@@ -128,7 +129,7 @@ module _ (point : ℕ → Point) (n : ℕ) (rise : (k : ℕ) → k < n → rises
         go : (t : Bool) → leZ r (point (k + 1) .reading .v) ≡ t → leZ r (point (k + 1) .reading .v) ≡ false
         go true e =
             let a = round-back (point k) (point (k + 1)) r (record { rise = not-true _ (rise k h); low = l; high = e }) in
-            absurd (never (sym (not-outside r k h a) ∙ all))
+            never (sym (not-outside r k h a) ∙ all)
         go false e = e
 
     climb : (k : ℕ) → k ≤ n → leZ (point k .reading .v) r ≡ true
@@ -171,7 +172,7 @@ module _ (point : ℕ → Point) (n : ℕ) (rise : (k : ℕ) → k < n → rises
       inner : leZ (point 0 .reading .v) r ≡ true → leZ r (point n .reading .v) ≡ true → (t : Bool) → every (passes r) 0 n ≡ t → every (passes r) 0 n ≡ false
       inner f l true e =
           let o = over r e f (n - 1) (omega arith) (climb r e f (n - 1) (omega arith)) in
-          absurd (never (sym o ∙ ap (λ (k : ℕ). leZ r (point k .reading .v)) last ∙ l))
+          never (sym o ∙ ap (λ (k : ℕ). leZ r (point k .reading .v)) last ∙ l)
       inner f l false e = e
 
       go : (a b : Bool) → leZ (point 0 .reading .v) r ≡ a → leZ r (point n .reading .v) ≡ b

@@ -4,9 +4,8 @@ use mathlib.Core.Path.{_≡_, refl, sym, ap, _∙_}
 use mathlib.Core.Bool.{Bool, true, false, not, cond}
 use mathlib.Core.List.{List, [], _∷_}
 use Prim.Native.Nat.{ℕ}
-use native.Mathlib.Omega.{arith}
 use Rattle.number.specs.Refusal.{Test, Answer, refused, given, answer}
-use Rattle.number.proofs.RefusalLaws.{refused-stays, given-goes-on, given-is}
+use Rattle.number.proofs.RefusalLaws.{refused-not-given, refused-stays, given-goes-on, given-is}
 use Rattle.message.specs.Receive.{Entry, tests, received}
 use Rattle.block.specs.Layout.{NO_STORE}
 use Rattle.block.specs.Words.{isStore, unitOf}
@@ -50,20 +49,17 @@ module _ (s m : List ℕ) where
   pub hearing-was : (e : Entry) → hearing s m ≡ given e → received (unitOf s) m ≡ given e
   hearing-was e h = by-block (isStore s) refl
     where
-      never : (n : ℕ) → _≡_ {A = Answer ℕ Entry} (refused n) (given e) → ⊥
-      never n q = let z : _≡_ {A = ℕ} 0 1 = cc in omega arith
-
       later : (x : Entry) (b : Bool) → cond {A = Answer ℕ Entry} b (given x) (refused 8) ≡ given e → x ≡ e
       later x true q = cc
-      later x false q = absurd (never 8 q)
+      later x false q = refused-not-given q
 
       by-message : isStore s ≡ true → (a : Answer ℕ Entry) → received (unitOf s) m ≡ a → received (unitOf s) m ≡ given e
-      by-message is (refused n) r = absurd (never n (sym (hearing-refused is n r) ∙ h))
+      by-message is (refused n) r = refused-not-given (sym (hearing-refused is n r) ∙ h)
       by-message is (given x) r = r ∙ ap given (later x (isLater s x) (sym (hearing-given is x r) ∙ h))
 
       by-block : (b : Bool) → isStore s ≡ b → received (unitOf s) m ≡ given e
       by-block true is = by-message is (received (unitOf s) m) refl
-      by-block false is = absurd (never NO_STORE (sym (hears-nothing is) ∙ h))
+      by-block false is = refused-not-given (sym (hears-nothing is) ∙ h)
 
   -- the block after it
   pub heard-refused : (n : ℕ) → hearing s m ≡ refused n → heardBy s m ≡ s

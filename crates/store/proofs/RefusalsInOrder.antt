@@ -27,15 +27,15 @@ abbrev lacks : ℕ → List (Test ℕ) → Bool
 lacks n [] = true
 lacks n (t ∷ ts) = not (eqb (t .refusal) n) && lacks n ts
 
-never : (n : ℕ) (ts : List (Test ℕ)) → T (lacks n ts) → (place : ℕ) → HoldsAt ts place n → ⊥
-never n [] l place h = h
-never n (t ∷ ts) l zero h =
+not-among : (n : ℕ) (ts : List (Test ℕ)) → T (lacks n ts) → (place : ℕ) → HoldsAt ts place n → ⊥
+not-among n [] l place h = h
+not-among n (t ∷ ts) l zero h =
     T-not (eqb (t .refusal) n) (and-l (not (eqb (t .refusal) n)) (lacks n ts) l) (subst T (sym (eq-eqb (t .refusal) n (h .1))) tt)
-never n (t ∷ ts) l (suc place) h = never n ts (and-r (not (eqb (t .refusal) n)) (lacks n ts) l) place h
+not-among n (t ∷ ts) l (suc place) h = not-among n ts (and-r (not (eqb (t .refusal) n)) (lacks n ts) l) place h
 
 pub no-store-exactly : (s m : List ℕ) → (hearing s m ≡ refused NO_STORE) ↔ (isStore s ≡ false)
 no-store-exactly s m = (λ e. go e (isStore s) refl, hears-nothing s m)
   where
     go : hearing s m ≡ refused NO_STORE → (b : Bool) → isStore s ≡ b → isStore s ≡ false
-    go e true is = let held = hearing-refused-exactly s m is NO_STORE .0 e .0 in absurd (never NO_STORE (hearTests s m) tt (held .0) (held .1))
+    go e true is = let held = hearing-refused-exactly s m is NO_STORE .0 e .0 in absurd (not-among NO_STORE (hearTests s m) tt (held .0) (held .1))
     go e false is = is

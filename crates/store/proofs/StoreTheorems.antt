@@ -9,7 +9,7 @@ use lib.Dec.{eqb, leb}
 use lib.ListN.{take, length}
 use borrow.Author.Tests.{leb-true, lt-ltb, eq-eqb, ne-eqb}
 use Rattle.number.specs.Refusal.{Answer, refused, given}
-use Rattle.number.proofs.Sizes.{and-true}
+use Rattle.number.proofs.Sizes.{never, and-true}
 use Rattle.quantity.specs.Limits.{minutesBetween}
 use Rattle.quantity.specs.declared.BarometerUnit.{BarometerUnit}
 use Rattle.wire.specs.Bytes.{channel}
@@ -78,9 +78,6 @@ module _ (s m : List ℕ) (long : length s ≡ WORDS) where
 stranger : (u : BarometerUnit) (c : ℕ) (M : List (List ℕ)) (m : List ℕ) → belongs c m ≡ false → history u c (m ∷ M) ≡ history u c M
 stranger u c M m f = go (received u m) refl
   where
-    never : false ≡ true → ⊥
-    never e = let z : _≡_ {A = ℕ} 0 1 = cc in omega arith
-
     belonged : (e : Entry) → received u m ≡ given e → e .channel ≡ c → belongs c m ≡ true
     belonged e r q = rw (eq-eqb (length m) 16 (received-long u m e r), eq-eqb (channel m) c (sym (received-channel u m e r) ∙ q))
 
