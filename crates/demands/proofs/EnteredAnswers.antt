@@ -3,9 +3,9 @@ use mathlib.Core.Path.{_≡_, refl, sym, ap, subst, _∙_}
 use mathlib.Core.Bool.{true}
 use mathlib.Core.List.{List}
 use Prim.Native.Nat.{ℕ}
-use native.Mathlib.Omega.{arith}
 use lib.IntN.{ℤ, pos, negsuc, natAbs}
 use Rattle.number.specs.Refusal.{given}
+use Rattle.number.proofs.Sizes.{impossible}
 use Rattle.quantity.specs.Limits.{inside, recordedPressure}
 use Rattle.settings.specs.Settings.{checked}
 use Rattle.settings.specs.declared.Settings.{Settings}
@@ -47,7 +47,7 @@ enters humidity m x e w = let which = w .5 in rw (sym (which .0), sym (which .1)
 -- a pressure that a file may record has no minus
 own-sign : (z : ℤ) → inside recordedPressure z ≡ true → z ≡ pos (natAbs z)
 own-sign (pos n) e = refl
-own-sign (negsuc n) e = absurd (let z : _≡_ {A = ℕ} 0 1 = cc in omega arith)
+own-sign (negsuc n) e = impossible (cc)
 
 -- the record of an entry
 record Recorded (q : Asked) (m : ℕ) (f : question q .Figures) (e : Entry) : Type 0 where
@@ -59,7 +59,7 @@ record Recorded (q : Asked) (m : ℕ) (f : question q .Figures) (e : Entry) : Ty
 module _ (g : Settings) (good : checked g ≡ given tt) (M : List (List ℕ)) (m : ℕ) where
   made : (q : Asked) (x : Reply q) → Tells q (heard g M) m x → (f : question q .Figures) → question q .told x ≡ given f → Recorded q m f (entryOf q m x)
   unfolding entryOf
-  made pressure (pressed.Refused n) w f e = absurd (let z : _≡_ {A = ℕ} 0 1 = cc in omega arith)
+  made pressure (pressed.Refused n) w f e = impossible (cc)
   made pressure (pressed.Given p) w f e =
       let is : p .0 .v ≡ f = cc in
       let told = w (the-table .0) (the-table .1) in
@@ -70,7 +70,7 @@ module _ (g : Settings) (good : checked g ≡ given tt) (M : List (List ℕ)) (m
         of-figures = (subst (λ (z : ℤ). z ≡ pos (natAbs z)) is (own-sign (p .0 .v) within), ap (pressureRecord m) is);
         right = λ dew ruled. pressure-record g good M m (p .0 .v) told dew;
       }
-  made tendency (changed.Refused n) w f e = absurd (let z : _≡_ {A = ℕ} 0 1 = cc in omega arith)
+  made tendency (changed.Refused n) w f e = impossible (cc)
   made tendency (changed.Given c n) w f e =
       let t : Change = record { change = c .0 .v; absent = n } in
       let is : t ≡ f = cc in
@@ -81,7 +81,7 @@ module _ (g : Settings) (good : checked g ≡ given tt) (M : List (List ℕ)) (m
         of-figures = ap (tendencyRecord m) is;
         right = λ dew ruled. tendency-record g good M m t told dew;
       }
-  made wind (blew.Refused n) w f e = absurd (let z : _≡_ {A = ℕ} 0 1 = cc in omega arith)
+  made wind (blew.Refused n) w f e = impossible (cc)
   made wind (blew.Given v d) w f e =
       let told = w (the-table .0) (the-table .1) in
       record {
@@ -90,7 +90,7 @@ module _ (g : Settings) (good : checked g ≡ given tt) (M : List (List ℕ)) (m
         of-figures = let is : Blows v d ≡ f = cc in subst (λ y. RecordOf wind m y (windRecord m v d)) is refl;
         right = λ dew ruled. wind-record g good M m v d told dew;
       }
-  made humidity (moist.Refused n) w f e = absurd (let z : _≡_ {A = ℕ} 0 1 = cc in omega arith)
+  made humidity (moist.Refused n) w f e = impossible (cc)
   made humidity (moist.Given h) w f e =
       record {
         the-record = humidityRecord m h;

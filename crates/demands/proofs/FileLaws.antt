@@ -10,6 +10,7 @@ use lib.IntN.{ℤ}
 use lib.ListN.{length, take, drop, length-take}
 use lib.Seq.{take-append-seam}
 use Rattle.number.specs.Refusal.{Numbered, numbered, Answer, refused, given, answer}
+use Rattle.number.proofs.Sizes.{impossible}
 use Rattle.bytes.specs.Bytes.{AreBytes}
 use Rattle.watchfile.specs.Format.{DewRule, reading, writing}
 use Rattle.watchfile.specs.declared.Record.{Record}
@@ -65,7 +66,7 @@ record Found (a : Answer ℕ (List Record)) (x : FileRead) (count : ℕ) : Type 
   same : take count (x .records) ≡ records
 
 found : (a : Answer ℕ (List Record)) (x : FileRead) (count : ℕ) → HandsBack a x → x .verdict ≡ Good count → Found a x count
-found (refused place) x count h e = absurd (let v = h .verdict in let z : _≡_ {A = ℕ} 0 1 = cc in omega arith)
+found (refused place) x count h e = (let v = h .verdict in impossible (cc))
 found (given rs) x count h e =
     let v = h .verdict in
     let n : count ≡ length rs = cc in
@@ -78,7 +79,7 @@ record Left (a : Answer Numbered (List ℕ)) (before : List ℕ) (size : ℕ) : 
   many : size ≡ length file
 
 left : (a : Answer Numbered (List ℕ)) (before : List ℕ) (size : ℕ) → given size ≡ sized a → Left a before size
-left (refused r) before size e = absurd (let z : _≡_ {A = ℕ} 0 1 = cc in omega arith)
+left (refused r) before size e = impossible (cc)
 left (given file) before size e = record { file = file; is = refl; many = cc }
 
 pub done : (x : Written) (n : ℕ) → writtenAs x ≡ given n → x ≡ Done n
@@ -90,7 +91,7 @@ unfolding listing answer
 given-text text room file e = go (ltb room (length text)) e
   where
     go : (b : Bool) → cond b (refused (numbered 17 (length text ∷ []))) (given text) ≡ given file → file ≡ text
-    go true e = absurd (let z : _≡_ {A = ℕ} 0 1 = cc in omega arith)
+    go true e = impossible (cc)
     go false e = cc
 
 -- ---- "A good watch file read and written again has the same bytes"

@@ -4,12 +4,11 @@ use mathlib.Core.Path.{_≡_, refl, sym, ap, subst, _∙_}
 use mathlib.Core.Bool.{Bool, true, false, not, _&&_, _||_, cond}
 use mathlib.Core.List.{List, [], _∷_, _++_}
 use Prim.Native.Nat.{ℕ, _-_, _<_, _≤_}
-use native.Mathlib.Omega.{arith}
 use lib.Dec.{eqb, ltb}
 use lib.IntN.{ℤ}
 use borrow.Author.Tests.{eqb-true, ltb-true, ltb-false, le-ltb, not-false}
 use Rattle.number.specs.Refusal.{Numbered, Test, Answer, refused, given}
-use Rattle.number.proofs.Sizes.{and-true}
+use Rattle.number.proofs.Sizes.{and-true, impossible, never}
 use Rattle.quantity.specs.Limits.{threeHours}
 use Rattle.settings.specs.declared.Settings.{Settings}
 use Rattle.cell.specs.Cells.{CHANNELS, Recall, absent, recalled, recalledAs}
@@ -24,7 +23,6 @@ use Rattle.vapour.proofs.TableExists.{the-table}
 use Rattle.station.specs.Source.{Source, heard}
 use Rattle.station.specs.Questions.{Asked, pressure, tendency, wind, humidity, question, Reply, isIn, reads, Answers, Tells}
 use Rattle.station.proofs.AnswerLaws.{passed}
-use Rattle.pressure.proofs.OrderLaws.{never}
 use Rattle.demands.specs.Working.{Working, Replies, Recalls}
 use Rattle.demands.specs.Demands.{Passed}
 use Rattle.demands.proofs.WorkingLaws.{good, block, replies}
@@ -36,7 +34,7 @@ Each P [] = Unit
 Each P (d ∷ ds) = P d × Each P ds
 
 in-each : (P : ℕ → Type 0) (ds : List ℕ) (c : ℕ) → isIn ds c ≡ true → Each P ds → P c
-in-each P [] c i all = absurd (never i)
+in-each P [] c i all = never i
 in-each P (d ∷ ds) c i all = go (eqb c d) refl i (in-each P ds c)
   where
     go : (b : Bool) → eqb c d ≡ b → (b || isIn ds c) ≡ true → (isIn ds c ≡ true → Each P ds → P c) → P c
@@ -100,7 +98,7 @@ refused-there q S m x w c j r e = go (question q .told x) (w (the-table .0) (the
   where
     go : (a : Answer Numbered (question q .Figures)) → Answers (question q .tests [] (the-table .0) S m) (question q .Rule S m) a → (n : Numbered) × (a ≡ refused n)
     go (refused n) v = (n, refl)
-    go (given f) v = absurd (never (ap isPresent (sym e) ∙ there S m (the-table .0) q f v c j r))
+    go (given f) v = (never (ap isPresent (sym e) ∙ there S m (the-table .0) q f v c j r))
 
 -- ---- it stays missing
 
@@ -123,7 +121,7 @@ module _ (g : Settings) (M N : List (List ℕ)) (c j : ℕ) (p : Passed g M c j)
 
   only-missing : (x : Recalled) → recalledAs j x ≡ absent → x ≡ Missing
   only-missing Missing e = refl
-  only-missing (Kept r) e = absurd (let z : _≡_ {A = ℕ} 0 1 = cc in omega arith)
+  only-missing (Kept r) e = impossible (cc)
 
   pub recall-missing : (b : List ℕ) → Working g (N ++ M) b → (x : Recalled) → Recalls b c j x → x ≡ Missing
   recall-missing b w x v =

@@ -11,6 +11,7 @@ use lib.IntN.{pos, negℤ, natAbs}
 use lib.ListN.{replicate}
 use denote.Ref.{RefT}
 use Rattle.number.specs.Refusal.{Answer, given}
+use Rattle.number.proofs.Sizes.{impossible}
 use Rattle.settings.specs.Settings.{checked}
 use Rattle.settings.specs.declared.Settings.{Settings}
 use Rattle.block.specs.Layout.{WORDS}
@@ -56,11 +57,11 @@ abbrev after : List (List ℕ) → ℕ → Use
 after M m = record { memory = memory; settings = ship; messages = M; minute = m }
 
 given-once : {R A : Type 0} (ask : Use → Answer R A) (u : Use) (x : A) → ask u ≡ given x → Refuses ask → ⊥
-given-once ask u x e r = let f = r u .1 in let z : _≡_ {A = ℕ} 0 1 = cc in omega arith
+given-once ask u x e r = let f = r u .1 in impossible (cc)
 
 -- figures to tell two answers apart by
 apart : pos 10 ≡ negℤ (pos 10) → ⊥
-apart e = let z : _≡_ {A = ℕ} 0 1 = cc in omega arith
+apart e = impossible (cc)
 
 abbrev speed : TrueWind → ℕ
 speed (Blows v d) = v .0
@@ -150,8 +151,7 @@ module _ (p : Program) (meets : Meets p) where
   one-more : answerIn pressure p (after quiet 280) ≡ answerIn pressure p (after (at-100 ∷ others) 280) → ⊥
   one-more e =
       let z : question pressure .told (pressed (pos 10010)) ≡ question pressure .told (missing 0 280) = sym pressure-280 ∙ e ∙ no-pressure-280 in
-      let y : _≡_ {A = ℕ} 0 1 = cc in
-      omega arith
+      impossible (cc)
 
   -- settings, minute and change are the same, and the counts are not
   one-fewer : InventsTheCount p → ⊥

@@ -4,12 +4,12 @@ use mathlib.Core.Bool.{Bool, true, false, cond}
 use mathlib.Core.List.{List, [], _∷_}
 use mathlib.Core.Logic.{_↔_}
 use Prim.Native.Nat.{ℕ}
-use native.Mathlib.Omega.{arith}
 use denote.Ref.{RefT, at-last}
 use lib.IntN.{ℤ}
 use lib.ListN.{length}
 use Rattle.number.specs.Refusal.{Numbered, Test, Answer, refused, given, answer, Holds, First}
 use Rattle.number.proofs.RefusalLaws.{refused-exactly, then-given}
+use Rattle.number.proofs.Sizes.{impossible}
 use Rattle.message.specs.Receive.{Entry}
 use Rattle.settings.specs.Settings.{checked, checkedAs}
 use Rattle.settings.specs.Settings as settings
@@ -62,7 +62,7 @@ by-settings b g c b′ w n =
 -- hearing, told without what is kept
 outcome-refused : (a : Answer ℕ Entry) (n : ℕ) → (outcome a ≡ refused n) ↔ (a ≡ refused n)
 outcome-refused (refused k) n = (λ e. let z : k ≡ n = cc in ap refused z, λ e. let z : k ≡ n = cc in ap refused z)
-outcome-refused (given e) n = (λ e. absurd (let z : _≡_ {A = ℕ} 0 1 = cc in omega arith), λ e. absurd (let z : _≡_ {A = ℕ} 0 1 = cc in omega arith))
+outcome-refused (given e) n = (λ e. impossible (cc), λ e. impossible (cc))
 
 by-messages : (g : Settings) (M : List (List ℕ)) (b : List ℕ) → Working g M b → (m : List ℕ) (h : Hearing) (b′ : List ℕ) → Hears b m h b′
     → (n : ℕ) → (heardAs h ≡ refused n) ↔ First (messageTests g M m) n
@@ -75,7 +75,7 @@ by-messages g M b w m h b′ v n =
 
 sized-back : (a : Answer Numbered (List ℕ)) (n : Numbered) → sized a ≡ refused n → a ≡ refused n
 sized-back (refused r) n e = let z : r ≡ n = cc in ap refused z
-sized-back (given s) n e = absurd (let z : _≡_ {A = ℕ} 0 1 = cc in omega arith)
+sized-back (given s) n e = impossible (cc)
 
 by-records : (dew : ℕ → ℤ) → DewRule dew → (all : List Record) (count : ℕ) (before after : List ℕ) (w : Written) → WritesFile all count before w after
     → (n : Numbered) → (writtenAs w ≡ refused n) ↔ First (writeTests dew all count (length before)) n

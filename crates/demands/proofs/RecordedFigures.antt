@@ -8,6 +8,7 @@ use lib.IntN.{ℤ, pos, negsuc, natAbs, _-ℤ_}
 use borrow.Author.Tests.{le-leb, eq-eqb, ne-eqb}
 use Rattle.number.specs.Whole.{within}
 use Rattle.number.specs.Refusal.{given}
+use Rattle.number.proofs.Sizes.{impossible}
 use Rattle.quantity.specs.Limits.{inside, pressureLimits, wheelhouse, recordedPressure, pressureChange, minutesBetween}
 use Rattle.quantity.proofs.LimitLaws.{either-side}
 use Rattle.quantity.specs.declared.MetresPerSecond.{MetresPerSecond}
@@ -38,7 +39,7 @@ both p q = rw (p, q)
 -- a pressure as a file holds it has no sign
 unsigned : (z : ℤ) → inside recordedPressure z ≡ true → inside recordedPressure (pos (natAbs z)) ≡ true
 unsigned (pos n) h = h
-unsigned (negsuc n) h = let z : _≡_ {A = ℕ} 0 1 = cc in absurd (omega arith)
+unsigned (negsuc n) h = impossible (cc)
 
 module _ (g : Settings) (good : checked g ≡ given tt) (rule : ℕ → ℤ) where
   -- Sea level pressure.

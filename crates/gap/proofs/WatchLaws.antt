@@ -3,12 +3,12 @@ use mathlib.Core.Path.{_≡_, refl, sym, ap, _∙_, subst}
 use mathlib.Core.Bool.{Bool, true, false, not, cond}
 use mathlib.Core.List.{List, [], _∷_}
 use Prim.Native.Nat.{ℕ, _<_}
-use native.Mathlib.Omega.{arith}
 use lib.Dec.{leb, lit<}
 use lib.Ieee.{ofBits}
 use lib.IntN.{pos}
 use Rattle.number.specs.Round.{nearest}
 use Rattle.number.specs.Refusal.{Answer, refused, given, answer}
+use Rattle.number.proofs.Sizes.{impossible}
 use Rattle.quantity.specs.Limits.{minutesBetween}
 use Rattle.quantity.specs.declared.BarometerUnit.{BarometerUnit}
 use Rattle.quantity.specs.declared.BarometerUnit.the-variants.{Hectopascals}
@@ -51,7 +51,7 @@ module _ {s s′ m : List ℕ} {h : Hearing} {M : List (List ℕ)} (heard : Hear
   is-heard new = go (received Hectopascals m) refl new
     where
       go : (a : Answer ℕ Entry) → received Hectopascals m ≡ a → isLaterThan M a ≡ true → isGiven (heardAs h) ≡ true
-      go (refused n) g t = absurd (let z : _≡_ {A = ℕ} 0 1 = cc in omega arith)
+      go (refused n) g t = impossible (cc)
       go (given e) g t =
           ap isGiven (heard .answer)
           ∙ ap (λ (a : Answer ℕ Entry). isGiven (outcome a))

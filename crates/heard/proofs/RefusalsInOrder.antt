@@ -4,10 +4,10 @@ use mathlib.Core.Path.{_≡_, refl, sym, ap, _∙_}
 use mathlib.Core.List.{List}
 use mathlib.Core.Logic.{_↔_}
 use Prim.Native.Nat.{ℕ, _<_}
-use native.Mathlib.Omega.{arith}
 use lib.Dec.{lit<}
 use Rattle.number.specs.Refusal.{Numbered, Test, Answer, refused, given, answer, Holds, NoneBelow, First}
 use Rattle.number.proofs.RefusalLaws.{refused-then, then-refused, given-then, then-given, in-number-order}
+use Rattle.number.proofs.Sizes.{impossible}
 use Rattle.wire.specs.Bytes.{minute}
 use Rattle.wire.specs.Decode.{message}
 use Rattle.message.specs.Receive.{entry}
@@ -34,16 +34,16 @@ module _ {A : Type 0} (ts : List (Test Numbered)) (Rule : A → Type 0) where
     λ h. let e : _≡_ {A = Answer Numbered (Unit {0})} (refused r) (refused n) = sym w ∙ then-refused tt ts n (h .0) (h .1) (h .2) in let z : r ≡ n = cc in ap refused z,
   )
   question-refused (given x) w n = (
-    λ e. absurd (let z : _≡_ {A = ℕ} 0 1 = cc in omega arith),
-    λ h. let e : _≡_ {A = Answer Numbered (Unit {0})} (given tt) (refused n) = sym (w .0) ∙ then-refused tt ts n (h .0) (h .1) (h .2) in absurd (let z : _≡_ {A = ℕ} 0 1 = cc in omega arith),
+    λ e. impossible (cc),
+    λ h. let e : _≡_ {A = Answer Numbered (Unit {0})} (given tt) (refused n) = sym (w .0) ∙ then-refused tt ts n (h .0) (h .1) (h .2) in impossible (cc),
   )
 
   -- It is answered, by its rule, exactly when no reason holds.
   pub question-given : (a : Answer Numbered A) → Answers ts Rule a → ((x : A) × (a ≡ given x) × Rule x) ↔ ((n : Numbered) → Holds ts n → ⊥)
   unfolding Answers
   question-given (refused r) w = (
-    λ h. absurd (let e = h .1 in let z : _≡_ {A = ℕ} 0 1 = cc in omega arith),
-    λ f. let e : _≡_ {A = Answer Numbered (Unit {0})} (refused r) (given tt) = sym w ∙ then-given tt ts f in absurd (let z : _≡_ {A = ℕ} 0 1 = cc in omega arith),
+    λ h. (let e = h .1 in impossible (cc)),
+    λ f. let e : _≡_ {A = Answer Numbered (Unit {0})} (refused r) (given tt) = sym w ∙ then-given tt ts f in impossible (cc),
   )
   question-given (given x) w = (λ h. given-then tt ts (w .0), λ f. (x, refl, w .1))
 

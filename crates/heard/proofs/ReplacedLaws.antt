@@ -8,7 +8,7 @@ use Prim.Native.Nat.{ℕ, _+_}
 use lib.Dec.{eqb, leb}
 use borrow.Author.Tests.{eqb-true}
 use Rattle.number.specs.Refusal.{Answer, refused, given}
-use Rattle.number.proofs.Sizes.{and-true}
+use Rattle.number.proofs.Sizes.{and-true, never}
 use Rattle.quantity.specs.Limits.{minutesBetween}
 use Rattle.quantity.specs.declared.BarometerUnit.{BarometerUnit}
 use Rattle.message.specs.Receive.{Entry, received}
@@ -21,7 +21,7 @@ use Rattle.station.specs.Source.{heard}
 use Rattle.station.specs.Questions.{Asked, Reply, reads, Tells}
 use Rattle.heard.specs.Feeds.{Exchanged, Replaced}
 use Rattle.station.proofs.SourceLaws.{agree-tells}
-use Rattle.heard.proofs.FedLaws.{never, itself}
+use Rattle.heard.proofs.FedLaws.{itself}
 
 -- ---- one channel's history
 

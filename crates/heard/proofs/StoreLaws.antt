@@ -10,7 +10,7 @@ use lib.ListN.{getD, take}
 use lib.Seq.{getD-take}
 use borrow.Author.Tests.{ltb-true, eqb-true, not-false}
 use Rattle.number.specs.Refusal.{given}
-use Rattle.number.proofs.Sizes.{and-true}
+use Rattle.number.proofs.Sizes.{and-true, never}
 use Rattle.quantity.specs.Limits.{inside, recordedPressure}
 use Rattle.quantity.specs.declared.BarometerUnit.{BarometerUnit}
 use Rattle.settings.specs.Settings.{checked, othersHold, nowhere}
@@ -24,7 +24,6 @@ use Rattle.store.proofs.HistoryLaws.{store-remembers, store-is-open}
 use Rattle.store.proofs.StoreTheorems.{settings-stay-heard, absent-count}
 use Rattle.block.proofs.SettingsLaws.{settings-back, others}
 use Rattle.pressure.specs.Pressure.{Barometer, barometerIn, barometerOf}
-use Rattle.pressure.proofs.OrderLaws.{never}
 use Rattle.pressure.proofs.PressureTheorems.{Alike, opened-alike, station-recorded}
 use Rattle.station.specs.Source.{heard, held, readingAt}
 use Rattle.station.specs.Questions.{Asked, question, Reply, isIn, AnsweredBy, Tells, TellsOf, noStore, tooLate, missingAt, outsideAt, stationAt, HumidityRule, humidityTests, foreign, foreignTo}
@@ -42,7 +41,7 @@ allLow (d ∷ cs) = ltb d CHANNELS && allLow cs
 
 low-in : (cs : List ℕ) (c : ℕ) → allLow cs ≡ true → isIn cs c ≡ true → c < CHANNELS
 unfolding allLow
-low-in [] c l i = absurd (never i)
+low-in [] c l i = never i
 low-in (d ∷ cs) c l i = go (eqb c d) refl i (low-in cs c)
   where
     both : (ltb d CHANNELS ≡ true) × (allLow cs ≡ true)

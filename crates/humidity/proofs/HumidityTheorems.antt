@@ -8,6 +8,7 @@ use lib.IntN.{ℤ, pos, natAbs}
 use lib.Signed.{leZ}
 use borrow.Author.Tests.{not-false}
 use Rattle.number.specs.Refusal.{Answer, refused, given, answer}
+use Rattle.number.proofs.Sizes.{impossible}
 use Rattle.vapour.specs.Vapour.{lowestVapour, highestVapour, water}
 use Rattle.vapour.proofs.SaturationLaws.{near-one}
 use Rattle.vapour.proofs.RangeLaws.{relative-most}
@@ -38,9 +39,9 @@ passed dry wet p a e f h x = go (not (withinLimits dry wet p a)) (wetAboveDry dr
   where
     go : (i j k : Bool) → not (withinLimits dry wet p a) ≡ i → wetAboveDry dry wet ≡ j → tooDry e ≡ k →
         _≡_ {A = Answer ℕ HumidityFigures} (cond i (refused 7) (cond j (refused 13) (cond k (refused 15) (given f)))) (given h) → Passed dry wet p a e f h
-    go true j k q r s y = absurd (let z : _≡_ {A = ℕ} 0 1 = cc in omega arith)
-    go false true k q r s y = absurd (let z : _≡_ {A = ℕ} 0 1 = cc in omega arith)
-    go false false true q r s y = absurd (let z : _≡_ {A = ℕ} 0 1 = cc in omega arith)
+    go true j k q r s y = impossible (cc)
+    go false true k q r s y = impossible (cc)
+    go false false true q r s y = impossible (cc)
     go false false false q r s y = record { limits = not-false _ q; bulbs = not-false _ r; enough = not-false _ s; same = cc }
 
 -- what an answer with figures says: they are the bulbs' figures, and no test has refused them

@@ -2,10 +2,10 @@
 use mathlib.Core.Path.{_≡_, sym, ap, _∙_}
 use mathlib.Core.Bool.{Bool, true, false, _&&_}
 use Prim.Native.Nat.{ℕ}
-use native.Mathlib.Omega.{arith}
 use lib.IntN.{ℤ, pos, natAbs}
 use lib.Signed.{leZ}
 use Rattle.number.specs.Refusal.{answer}
+use Rattle.number.proofs.Sizes.{impossible}
 use Rattle.quantity.specs.Limits.{inside, recordedPressure}
 use Rattle.settings.specs.Settings.{psychrometer}
 use Rattle.vapour.specs.Vapour.{lowestVapour}
@@ -27,7 +27,7 @@ none =
     }
 
 untrue : true ≡ false → ⊥
-untrue e = let z : _≡_ {A = ℕ} 0 1 = cc in omega arith
+untrue e = impossible (cc)
 
 module _ (dry wet p a : ℤ) where
   pub outside : withinLimits dry wet p a ≡ false → IsMoisture dry wet p a OutsideLimits
@@ -38,7 +38,7 @@ module _ (dry wet p a : ℤ) where
         near = λ h. absurd (untrue (sym h ∙ l));
         figures = none;
         first = rw l;
-        worked = λ e. absurd (let z : _≡_ {A = ℕ} 0 1 = cc in omega arith);
+        worked = λ e. impossible (cc);
       }
 
   module _ (d w : ℕ) (tabled : Tabled dry wet d w) where
@@ -54,7 +54,7 @@ module _ (dry wet p a : ℤ) where
           near = λ h. tabled .near-wet;
           figures = none;
           first = rw (l, x);
-          worked = λ e. absurd (let z : _≡_ {A = ℕ} 0 1 = cc in omega arith);
+          worked = λ e. impossible (cc);
         }
 
   module _ (d w : ℕ) (ready : Ready dry wet p a d w) where
@@ -66,7 +66,7 @@ module _ (dry wet p a : ℤ) where
           near = λ h. ready .tabled .near-wet;
           figures = none;
           first = rw (ready .limits, ready .bulbs, y);
-          worked = λ e. absurd (let z : _≡_ {A = ℕ} 0 1 = cc in omega arith);
+          worked = λ e. impossible (cc);
         }
 
     pub figured : (h : HumidityFigures) → leZ (pos lowestVapour) (vapourPressure w a p dry wet) ≡ true →

@@ -11,7 +11,7 @@ use lib.Signed.{leZ, _≤ℤ_}
 use borrow.Author.Tests.{leb-true}
 use Rattle.number.specs.Round.{nearest, rounded}
 use Rattle.number.proofs.RoundLaws.{nearest-whole, nearest-monotone}
-use Rattle.number.proofs.Sizes.{and-true, within-size, natural}
+use Rattle.number.proofs.Sizes.{and-true, impossible, natural, within-size}
 use Rattle.quantity.specs.Limits.{inside, bulb, recordedPressure}
 use Rattle.settings.specs.Settings.{psychrometer}
 use Rattle.vapour.specs.Vapour.{Near, lowestVapour, highestVapour, water}
@@ -105,7 +105,7 @@ under-entry dry wet p a w l e =
 -- e as a whole number of hundredths, where it is not too dry
 pub whole-e : (z : ℤ) → leZ (pos lowestVapour) z ≡ true → (pos (natAbs z) ≡ z) × (lowestVapour ≤ natAbs z)
 whole-e (pos n) e = (refl, leb-true lowestVapour n e)
-whole-e (negsuc n) e = absurd (let z : _≡_ {A = ℕ} 0 1 = cc in omega arith)
+whole-e (negsuc n) e = impossible (cc)
 
 -- e, saturation and the wet bulb's entry in order
 pub record Order (e w d : ℕ) : Type 0 where

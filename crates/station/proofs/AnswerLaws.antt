@@ -4,10 +4,10 @@ use mathlib.Core.Path.{_≡_, refl, sym, ap, _∙_}
 use mathlib.Core.Bool.{Bool, true, false, not, cond}
 use mathlib.Core.List.{List, [], _∷_, _++_}
 use Prim.Native.Nat.{ℕ}
-use native.Mathlib.Omega.{arith}
 use lib.Dec.{leb}
 use borrow.Author.Tests.{lt-ltb, le-ltb, leb-true, leb-false, not-true, not-false}
 use Rattle.number.specs.Refusal.{Numbered, Test, Answer, refused, given, answer}
+use Rattle.number.proofs.Sizes.{impossible}
 use Rattle.quantity.specs.Limits.{lastMinute}
 use Rattle.block.specs.Words.{isStore}
 use Rattle.station.specs.Questions.{Answers, noStore, tooLate}
@@ -58,7 +58,7 @@ lets-pass t ts w = go (t .holds) refl w
   where
     go : (b : Bool) → t .holds ≡ b → cond b (refused (t .refusal)) (answer {A = Unit {0}} ts tt) ≡ given tt
         → (t .holds ≡ false) × (answer {A = Unit {0}} ts tt ≡ given tt)
-    go true h e = absurd (let z : _≡_ {A = ℕ} 0 1 = cc in omega arith)
+    go true h e = impossible (cc)
     go false h e = (h, e)
 
 pub passed : {A : Type 0} (t : Test Numbered) (ts : List (Test Numbered)) (Rule : A → Type 0) (x : A) → Answers (t ∷ ts) Rule (given x)
@@ -84,14 +84,14 @@ pub stopped : {A : Type 0} (t : Test Numbered) (ts us : List (Test Numbered)) (R
     → t .holds ≡ true → Answers (t ∷ ts) Rule a → Answers (t ∷ us) Rule′ a
 unfolding answer Answers
 stopped t ts us Rule Rule′ (refused r) h w = rw h (rw h at w)
-stopped t ts us Rule Rule′ (given x) h w = absurd (let e = rw h at (w .0) in let z : _≡_ {A = ℕ} 0 1 = cc in omega arith)
+stopped t ts us Rule Rule′ (given x) h w = (let e = rw h at (w .0) in impossible (cc))
 
 -- so with the second of the same two
 pub stopped-next : {A : Type 0} (s t : Test Numbered) (ts us : List (Test Numbered)) (Rule Rule′ : A → Type 0) (a : Answer Numbered A)
     → t .holds ≡ true → Answers (s ∷ t ∷ ts) Rule a → Answers (s ∷ t ∷ us) Rule′ a
 unfolding answer Answers
 stopped-next s t ts us Rule Rule′ (refused r) h w = rw h (rw h at w)
-stopped-next s t ts us Rule Rule′ (given x) h w = absurd (let e = lets-pass t ts (lets-pass s (t ∷ ts) (w .0) .1) .0 in let z : _≡_ {A = ℕ} 0 1 = cc in omega arith)
+stopped-next s t ts us Rule Rule′ (given x) h w = (let e = lets-pass t ts (lets-pass s (t ∷ ts) (w .0) .1) .0 in impossible (cc))
 
 -- a rule that allows one figure allows one answer
 pub one-answer : {A : Type 0} (ts : List (Test Numbered)) (Rule : A → Type 0) → ((x y : A) → Rule x → Rule y → x ≡ y)
@@ -99,9 +99,9 @@ pub one-answer : {A : Type 0} (ts : List (Test Numbered)) (Rule : A → Type 0) 
 unfolding Answers
 one-answer ts Rule one (refused r) (refused q) v w = let e : _≡_ {A = Answer Numbered (Unit {0})} (refused r) (refused q) = sym v ∙ w in let z : r ≡ q = cc in ap refused z
 one-answer ts Rule one (refused r) (given y) v w =
-    let e : _≡_ {A = Answer Numbered (Unit {0})} (refused r) (given tt) = sym v ∙ w .0 in absurd (let z : _≡_ {A = ℕ} 0 1 = cc in omega arith)
+    let e : _≡_ {A = Answer Numbered (Unit {0})} (refused r) (given tt) = sym v ∙ w .0 in impossible (cc)
 one-answer ts Rule one (given x) (refused q) v w =
-    let e : _≡_ {A = Answer Numbered (Unit {0})} (refused q) (given tt) = sym w ∙ v .0 in absurd (let z : _≡_ {A = ℕ} 0 1 = cc in omega arith)
+    let e : _≡_ {A = Answer Numbered (Unit {0})} (refused q) (given tt) = sym w ∙ v .0 in impossible (cc)
 one-answer ts Rule one (given x) (given y) v w = ap given (one x y (v .1) (w .1))
 
 -- a test that cannot hold where those before it let pass may be left out

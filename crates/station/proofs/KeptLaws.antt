@@ -5,14 +5,13 @@ use mathlib.Core.Bool.{Bool, true, false, not, _&&_, _||_, cond}
 use mathlib.Core.List.{List, [], _∷_}
 use mathlib.Core.Logic.{inl, inr}
 use Prim.Native.Nat.{ℕ, _/_, _%_, _<_}
-use native.Mathlib.Omega.{arith}
 use types.Run.{OneOf}
 use denote.Enum.Declared.{tagOf}
 use lib.Dec.{eqb, lit<}
 use lib.IntN.{ℤ, pos}
 use lib.ListN.{getD}
 use borrow.Author.Tests.{lt-ltb, eq-eqb, not-true}
-use Rattle.number.proofs.Sizes.{and-true}
+use Rattle.number.proofs.Sizes.{and-true, never}
 use Rattle.quantity.specs.Limits.{inside, degrees}
 use Rattle.quantity.specs.declared.BarometerUnit.{BarometerUnit}
 use Rattle.message.specs.Receive.{Entry, °C, m/s, kn, pressure, entryOf}
@@ -31,9 +30,6 @@ use Rattle.store.specs.History.{isPresent}
 use Rattle.pressure.specs.Pressure.{barometerOf, inUnit, tenthsIn, isReading}
 use Rattle.pressure.proofs.PressureTheorems.{own-unit}
 use Rattle.station.specs.Source.{first, second, inCelsius, inMetresPerSecond, inKnots, inDegrees}
-
-never : {A : Type 0} → false ≡ true → A
-never e = let z : _≡_ {A = ℕ} 0 1 = cc in absurd (omega arith)
 
 -- The number of a channel's first figure, in the unit that its formula asks for.
 abbrev pub numberOf : BarometerUnit → ℕ → Recall → ℤ

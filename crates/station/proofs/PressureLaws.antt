@@ -11,7 +11,7 @@ use lib.Dec.{lit≤, lit<}
 use lib.IntN.{ℤ, pos, negℤ, natAbs, _-ℤ_}
 use borrow.Author.Tests.{not-false}
 use Rattle.number.specs.Refusal.{Numbered, numbered, Test, Answer, refused, given, answer}
-use Rattle.number.proofs.Sizes.{within-size}
+use Rattle.number.proofs.Sizes.{impossible, within-size}
 use Rattle.quantity.specs.Limits.{inside, wheelhouse}
 use Rattle.message.specs.Receive.{Figure}
 use Rattle.block.specs.Words.{unitOf}
@@ -39,12 +39,12 @@ Got isOutside z OutsideLimits = ⊥
 Got isOutside z OutsideCertificate = isOutside ≡ true
 
 got : (o : Bool) (z : ℤ) (w : WorkedPressure) → pressureAs w ≡ cond o (refused 12) (given z) → Got o z w
-got true z (Given p) e = absurd (let z : _≡_ {A = ℕ} 0 1 = cc in omega arith)
+got true z (Given p) e = impossible (cc)
 got true z OutsideLimits e = absurd (let z : _≡_ {A = ℕ} 7 12 = cc in omega arith)
 got true z OutsideCertificate e = refl
 got false z (Given p) e = (refl, cc)
-got false z OutsideLimits e = absurd (let z : _≡_ {A = ℕ} 0 1 = cc in omega arith)
-got false z OutsideCertificate e = absurd (let z : _≡_ {A = ℕ} 0 1 = cc in omega arith)
+got false z OutsideLimits e = impossible (cc)
+got false z OutsideCertificate e = impossible (cc)
 
 -- of what is a reading of the barometer
 module _ (b : Barometer) (f : Figure) (w : WorkedPressure) (shown : isReading b f ≡ true) where

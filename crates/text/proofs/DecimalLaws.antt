@@ -11,6 +11,7 @@ use lib.IntN.{ℤ, pos, negsuc, natAbs}
 use lib.Signed.{ltZ}
 use lib.ListN.{length, length-append}
 use borrow.Author.Tests.{ltb-true, ltb-false, lt-ltb, le-ltb}
+use Rattle.number.proofs.Sizes.{impossible}
 use Rattle.text.specs.Text.{digit, digits, decimal, decimalOf, said, Put}
 use Rattle.text.proofs.PutLaws.{join}
 
@@ -70,7 +71,7 @@ put-minus (negsuc n) t e p q = rw (sym e) (join p q)
 pub put-plain : {b b₁ : List ℕ} {at k n : ℕ} (z : ℤ) → ltZ z (pos 0) ≡ false → n ≡ natAbs z → Put b b₁ at (decimal n) k → Put b b₁ at (decimalOf z) k
 unfolding decimalOf
 put-plain (pos n) t e p = rw (sym e) p
-put-plain (negsuc n) t e p = absurd (let z : _≡_ {A = ℕ} 0 1 = cc in omega arith)
+put-plain (negsuc n) t e p = impossible (cc)
 
 -- ---- the digits say the number
 

@@ -2,11 +2,11 @@
 use mathlib.Core.Path.{_≡_, refl, sym, ap, _∙_}
 use mathlib.Core.Bool.{Bool, true, false}
 use Prim.Native.Nat.{ℕ}
-use native.Mathlib.Omega.{arith}
 use lib.IntN.{ℤ}
 use Rattle.number.specs.Single.{Single}
 use Rattle.number.specs.declared.Kept.{Kept}
 use Rattle.number.proofs.SingleAnswers.{kept-by}
+use Rattle.number.proofs.Sizes.{impossible}
 use Rattle.vapour.specs.Vapour.{AreSaturations, IsDew, water}
 use Rattle.vapour.specs.declared.VapourPressure.{VapourPressure}
 use Rattle.vapour.specs.declared.DewTemperature.{DewTemperature}
@@ -35,7 +35,7 @@ dew-by e = ap make (kept-by e)
     make k = record { 0 = k }
 
 not-both : {b : Bool} → b ≡ true → b ≡ false → ⊥
-not-both p q = let z : _≡_ {A = ℕ} 0 1 = cc in omega arith
+not-both p q = impossible (cc)
 
 pub one-saturation : (dry wet : ℤ) (r r′ : Saturations) → AreSaturations dry wet r → AreSaturations dry wet r′ → r ≡ r′
 one-saturation dry wet (Entries d w) (Entries d′ w′) p q =

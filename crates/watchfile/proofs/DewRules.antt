@@ -3,9 +3,9 @@
 use mathlib.Core.Path.{_≡_, refl}
 use mathlib.Core.Bool.{Bool, true, false}
 use Prim.Native.Nat.{ℕ}
-use native.Mathlib.Omega.{arith}
 use lib.IntN.{ℤ, pos}
 use Rattle.number.specs.Whole.{within}
+use Rattle.number.proofs.Sizes.{impossible}
 use Rattle.quantity.specs.Limits.{inside, bulb}
 use Rattle.vapour.specs.Vapour.{DewPoint, recordedVapour, IsDew}
 use Rattle.vapour.specs.declared.Dew.the-variants.{Point, OutsideRange}
@@ -26,7 +26,7 @@ pick e false h = pos 0
 picked : (e : ℕ) (b : Bool) (h : recordedVapour e ≡ b) → recordedVapour e ≡ true → DewPoint e (pick e b h)
 unfolding pick
 picked e true h k = dew-place e h .2
-picked e false h k = let z : _≡_ {A = ℕ} 0 1 = cc in absurd (omega arith)
+picked e false h k = impossible (cc)
 
 -- There is a rule that gives the dew point of each e that a file may hold.
 pub the-rule : (rule : ℕ → ℤ) × DewRule rule

@@ -11,6 +11,7 @@ use lib.Dec.{ltb}
 use borrow.Author.Tests.{lt-ltb, le-ltb, ltb-false}
 use Rattle.number.specs.Refusal.{Answer, refused, given, answer}
 use Rattle.number.proofs.RefusalLaws.{refused-stays, given-goes-on}
+use Rattle.number.proofs.Sizes.{impossible}
 use Rattle.watchfile.specs.Fields.{Field, fieldTests, placed}
 
 -- ---- the first field
@@ -116,7 +117,7 @@ one-within false false n at k z h f g = let e : at ≡ k = cc in let l = f refl 
 
 pub place-within : {A : Type 0} (n : ℕ) (fs : List Field) (a : A) (k : ℕ) → Ordered fs → answer (fieldTests n fs) a ≡ refused k → k ≤ n
 unfolding answer fieldTests
-place-within n [] a k o h = let z : _≡_ {A = ℕ} 0 1 = cc in omega arith
+place-within n [] a k o h = impossible (cc)
 place-within n (f ∷ fs) a k o h =
     one-within (ltb n (f .whole)) (f .right) n (f .at) k (answer (fieldTests n fs) a) h
     (λ e. let w = ltb-false n (f .whole) e in let l = o .0 in omega arith)

@@ -9,6 +9,7 @@ use lib.Dec.{le→leb}
 use lib.IntN.{pos, natAbs}
 use lib.Signed.{_≤ℤ_}
 use borrow.Author.Tests.{eq-eqb, ne-eqb}
+use Rattle.number.proofs.Sizes.{impossible}
 use Rattle.quantity.specs.Limits.{inside, degrees, trueWind, highestWind}
 use Rattle.quantity.specs.Convert.{partsOfKnots, partsOfMetres, keptDirection}
 use Rattle.quantity.specs.declared.MetresPerSecond.{MetresPerSecond}
@@ -38,7 +39,7 @@ one-speed : (s k r v w : ℕ) → Nearest s k r v → Nearest s k r w → v ≡ 
 one-speed s k r v w a b = one-root _ v w (root-of s k r (parts r) v a) (root-of s k r (parts r) w b)
 
 not-both : true ≡ false → ⊥
-not-both e = let z : _≡_ {A = ℕ} 0 1 = cc in omega arith
+not-both e = impossible (cc)
 
 pub single-wind : (course ship apparent bow : ℕ) (w x : TrueWind) → IsWind course ship apparent bow w → IsWind course ship apparent bow x → w ≡ x
 single-wind course ship apparent bow (Blows v d) (Blows w e) a b =

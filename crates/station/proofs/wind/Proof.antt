@@ -3,10 +3,10 @@ use mathlib.Core.Path.{_≡_, refl, sym, ap, subst, _∙_}
 use mathlib.Core.Bool.{true, false, not}
 use mathlib.Core.List.{List, [], _∷_}
 use Prim.Native.Nat.{ℕ}
-use native.Mathlib.Omega.{arith}
 use denote.Ref.{now}
 use lib.Dec.{lit<}
 use Rattle.number.specs.Refusal.{Numbered, Test, Answer}
+use Rattle.number.proofs.Sizes.{never}
 use Rattle.message.specs.Receive.{entryOf}
 use Rattle.message.specs.declared.Reading.{Reading}
 use Rattle.message.specs.declared.Reading.the-variants.{ApparentWind, ShipMotion}
@@ -28,9 +28,6 @@ use Rattle.block.proofs.is_store.Reads as is-store-reads
 use Rattle.quantity.proofs.Minute.holds.Reads as holds-reads
 use Rattle.store.proofs.recall.Reads as recall-reads
 use Rattle.wind.proofs.true_wind.Reads as true-wind-reads
-
-never : {A : Type 0} → false ≡ true → A
-never e = let z : _≡_ {A = ℕ} 0 1 = cc in absurd (omega arith)
 
 -- the store is one, and the minute may be asked
 module _ (c : tie.Else2) where
