@@ -12,6 +12,8 @@ use lib.Seq.{take-append-seam}
 use Rattle.number.specs.Refusal.{Numbered, numbered, Answer, refused, given, answer}
 use Rattle.number.proofs.Sizes.{impossible}
 use Rattle.bytes.specs.Bytes.{AreBytes}
+use Rattle.bytes.specs.Lent.{sized, leftBy}
+use Rattle.bytes.proofs.LentLaws.{given-lays}
 use Rattle.watchfile.specs.Format.{DewRule, reading, writing}
 use Rattle.watchfile.specs.declared.Record.{Record}
 use Rattle.watchfile.proofs.DewRules.{the-rule}
@@ -20,7 +22,7 @@ use Rattle.reader.specs.declared.FileRead.{FileRead}
 use Rattle.reader.specs.declared.Verdict.{Verdict}
 use Rattle.reader.specs.declared.Verdict.the-variants.{Good, Broken}
 use Rattle.reader.proofs.SingleAnswers.{verdict-by}
-use Rattle.writer.specs.Write.{Wrote, writtenAs, sized, leftBy}
+use Rattle.writer.specs.Write.{Wrote, writtenAs}
 use Rattle.writer.specs.declared.Written.{Written}
 use Rattle.writer.specs.declared.Written.the-variants.{Done, BreaksRules, TooShort}
 use Rattle.writer.proofs.RoundTrips.{read-then-written, written-then-read}
@@ -72,16 +74,6 @@ found (given rs) x count h e =
     let n : count ≡ length rs = cc in
     record { records = rs; is = refl; many = n; same = ap (λ (k : ℕ). take k (x .records)) n ∙ ap (take (length rs)) (h .records) ∙ take-append-seam rs _ }
 
--- a write that is done has left a file
-record Left (a : Answer Numbered (List ℕ)) (before : List ℕ) (size : ℕ) : Type 0 where
-  file : List ℕ
-  is : a ≡ given file
-  many : size ≡ length file
-
-left : (a : Answer Numbered (List ℕ)) (before : List ℕ) (size : ℕ) → given size ≡ sized a → Left a before size
-left (refused r) before size e = impossible (cc)
-left (given file) before size e = record { file = file; is = refl; many = cc }
-
 pub done : (x : Written) (n : ℕ) → writtenAs x ≡ given n → x ≡ Done n
 done x n e = sym (case-back x) ∙ ap case-of e ∙ case-back (Done n)
 
@@ -115,11 +107,11 @@ pub records-again : (all : List Record) (count : ℕ) (before after : List ℕ) 
 records-again all count before after size enough w x r =
     let rule = the-rule .0 in
     let wrote = write-is all count before (Done size) after w rule (the-rule .1) in
-    let l = left (writing rule all count (length before)) before size (wrote .answer) in
-    let file-is : take size after ≡ l .file =
-        ap (λ (n : ℕ). take n after) (l .many) ∙ ap (take (length (l .file))) (wrote .bytes ∙ ap (leftBy before) (l .is)) ∙ take-append-seam (l .file) _ in
+    let l = given-lays (writing rule all count (length before)) before size (sym (wrote .answer)) in
+    let file-is : take size after ≡ l .0 =
+        ap (λ (n : ℕ). take n after) (sym (l .2)) ∙ ap (take (length (l .0))) (wrote .bytes ∙ l .3) ∙ take-append-seam (l .0) _ in
     let back : reading rule (take size after) ≡ given (take count all) =
-        ap (reading rule) file-is ∙ written-then-read rule all count (length before) (l .file) (l .is) (the-rule .1) in
+        ap (reading rule) file-is ∙ written-then-read rule all count (length before) (l .0) (l .1) (the-rule .1) in
     let h = subst (λ (a : Answer ℕ (List Record)). HandsBack a x) back (read-is (take size after) x r rule (the-rule .1)) in
     let many : length (take count all) ≡ count = omega (arith, length-take count all) in
     (
@@ -134,10 +126,6 @@ pub listed-as : (rule : ℕ → ℤ) → DewRule rule → (s before after : List
 listed-as rule ruled s before after size w =
     let text = listingOf (reading rule s) in
     let h = list-is s before (Text size) after w rule ruled in
-    let l = left (listing text (length before)) before size (h .answer) in
-    let is : l .file ≡ text = given-text text (length before) (l .file) (l .is) in
-    (
-      l .many ∙ ap length is,
-      h .bytes ∙ ap (leftBy before) (l .is) ∙ ap (λ (f : List ℕ). f ++ drop (length (l .file)) before) is
-      ∙ ap (λ (n : ℕ). text ++ drop n before) (sym (l .many)),
-    )
+    let l = given-lays (listing text (length before)) before size (sym (h .answer)) in
+    let is : l .0 ≡ text = given-text text (length before) (l .0) (l .1) in
+    (sym (l .2) ∙ ap length is, h .bytes ∙ l .3 ∙ ap (λ (f : List ℕ). f ++ drop size before) is)

@@ -31,10 +31,12 @@ use Rattle.heard.proofs.RefusalsInOrder.{question-refused, message-by-messages}
 use Rattle.heard.proofs.FedLaws.{same-fed, fed-again}
 use Rattle.heard.proofs.ReplacedLaws.{same-replaced}
 use Rattle.heard.proofs.SettingsAlike.{same-store}
+use Rattle.bytes.specs.Lent.{sized}
+use Rattle.bytes.proofs.LentLaws.{sized-refused}
 use Rattle.watchfile.specs.Format.{DewRule, reading, writing, writeTests}
 use Rattle.watchfile.specs.declared.Record.{Record}
 use Rattle.watchfile.proofs.DewRules.{the-rule}
-use Rattle.writer.specs.Write.{Wrote, writtenAs, sized}
+use Rattle.writer.specs.Write.{writtenAs}
 use Rattle.writer.specs.declared.Written.{Written}
 use Rattle.writer.proofs.RefusalsInOrder.{writes-in-order}
 use Rattle.writer.proofs.WriteTheorems.{refused-leaves-every-byte}
@@ -73,16 +75,12 @@ by-messages g M b w m h b′ v n =
     let by = message-by-messages g (good g M b w) M m in
     (λ e. law .0 (sym by ∙ told .0 (sym is ∙ e)), λ f. is ∙ told .1 (by ∙ law .1 f))
 
-sized-back : (a : Answer Numbered (List ℕ)) (n : Numbered) → sized a ≡ refused n → a ≡ refused n
-sized-back (refused r) n e = let z : r ≡ n = cc in ap refused z
-sized-back (given s) n e = impossible (cc)
-
 by-records : (dew : ℕ → ℤ) → DewRule dew → (all : List Record) (count : ℕ) (before after : List ℕ) (w : Written) → WritesFile all count before w after
     → (n : Numbered) → (writtenAs w ≡ refused n) ↔ First (writeTests dew all count (length before)) n
 by-records dew ruled all count before after w v n =
     let law = writes-in-order dew all count (length before) n in
     let h = write-is all count before w after v dew ruled in
-    (λ e. law .0 (sized-back (writing dew all count (length before)) n (sym (h .answer) ∙ e)), λ f. h .answer ∙ ap sized (law .1 f))
+    (λ e. law .0 (sized-refused (writing dew all count (length before)) n (sym (h .answer) ∙ e)), λ f. h .answer ∙ ap sized (law .1 f))
 
 by-listing : (dew : ℕ → ℤ) → DewRule dew → (s before after : List ℕ) (l : Listed) → ListsFile s before l after
     → (n : Numbered) → (listedAs l ≡ refused n) ↔ First (listTests (listingOf (reading dew s)) (length before)) n
@@ -90,7 +88,7 @@ by-listing dew ruled s before after l v n =
     let text = listingOf (reading dew s) in
     let law = lists-in-order text (length before) n in
     let h = list-is s before l after v dew ruled in
-    (λ e. law .0 (sized-back (listing text (length before)) n (sym (h .answer) ∙ e)), λ f. h .answer ∙ ap sized (law .1 f))
+    (λ e. law .0 (sized-refused (listing text (length before)) n (sym (h .answer) ∙ e)), λ f. h .answer ∙ ap sized (law .1 f))
 
 -- settings that no test refuses are good
 opens : (b : List ℕ) (g : Settings) (c : Checked) (b′ : List ℕ) → Opens b g c b′ → ((n : ℕ) → Holds (settings.tests g) n → ⊥) → Working g [] b′
