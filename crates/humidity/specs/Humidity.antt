@@ -35,7 +35,7 @@ tooDry e = not (leZ (pos lowestVapour) e)
 abbrev pub withinLimits : ℤ → ℤ → ℤ → ℤ → Bool
 withinLimits dry wet p a = inside bulb dry && inside bulb wet && (inside recordedPressure p && inside psychrometer a)
 
--- The three figures that follow from e and saturation.
+-- The three figures that follow from e and saturation: deficit, relative humidity and dew point, each by its one definition.
 pub record Follow (h : HumidityFigures) : Type 0 where
   pub deficit : h .deficit .0 ≡ vapourDeficit (h .e .0) (h .saturation .0)
   pub relative : h .relative ≡ relativeHumidity (h .e .0) (h .saturation .0)

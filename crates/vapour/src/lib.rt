@@ -21,7 +21,7 @@ impl VapourPressure {
 
     pub const HIGH: u32 = 12345;
 
-    // Whether n is a saturation of the table's range, and so an e that has a dew point in it.
+    // Whether n lies in the table's range: what a watch file takes for e and for saturation, and what has a dew point.
     pub fn holds(n: u32) -> bool
         ensures { λ r. ⌜ r ≡ recordedVapour n ⌝ }
     {
