@@ -10,7 +10,7 @@ use lib.Dec.{eqb, lit<}
 use lib.ListN.{length, getD, take, drop, set, length-drop, length-append, drop-of-length-le}
 use lib.Seq.{drop-drop, take-at, drop-at, take-all, lt-length-set, getD-set-same, getD-set-other}
 use borrow.Author.Tests.{eqb-true, eqb-false}
-use Rattle.number.specs.Refusal.{Answer, refused, given}
+use Rattle.number.specs.Refusal.{Answer, refused, given, numberIn}
 use Rattle.wire.specs.declared.MessageRefusal.{MessageRefusal}
 use Rattle.wire.specs.declared.MessageRefusal.the-variants.{NotSixteenBytes, NoSuchChannel, ByteNotZero, WetBulbNotWater, MinuteTooLate, NotFinite, OutsideLimits}
 use Rattle.message.specs.Receive.{Entry}
@@ -18,8 +18,8 @@ use Rattle.settings.specs.declared.Settings.{Settings}
 use Rattle.store.specs.Block.{hearing, heardBy, heardAs, outcome, Hears}
 use Rattle.store.specs.History.{store-of}
 use Rattle.store.specs.declared.Hearing.{Hearing}
-use Rattle.store.specs.declared.Hearing.the-variants.{Heard, Refused, NotLater}
-use Rattle.desk.specs.Counting.{cut, messages, numberIn, heardAll, oneMore, countedAll}
+use Rattle.store.specs.declared.Hearing.the-variants.{Heard, Refused, NotLater, NoStore}
+use Rattle.desk.specs.Counting.{cut, messages, heardAll, oneMore, countedAll}
 
 -- ---- cutting
 
@@ -72,11 +72,12 @@ module _ (s : List ℕ) (at end : ℕ) (here : at < length s) (ends : end ≡ mi
 
 -- ---- numbers
 
-pub number-small : (h : Hearing) → numberIn (heardAs h) < 9
+-- each has a place among the counts
+pub number-small : (h : Hearing) → numberIn (heardAs h) < 256
 number-small Heard = lit< tt
 number-small (Refused r) = go r
   where
-    go : (r : MessageRefusal) → numberIn (heardAs (Refused r)) < 9
+    go : (r : MessageRefusal) → numberIn (heardAs (Refused r)) < 256
     go NotSixteenBytes = lit< tt
     go NoSuchChannel = lit< tt
     go ByteNotZero = lit< tt
@@ -85,6 +86,7 @@ number-small (Refused r) = go r
     go NotFinite = lit< tt
     go OutsideLimits = lit< tt
 number-small NotLater = lit< tt
+number-small NoStore = lit< tt
 
 same-number : (a : Answer ℕ Entry) → numberIn (outcome a) ≡ numberIn a
 same-number (refused n) = refl

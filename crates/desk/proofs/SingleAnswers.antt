@@ -13,7 +13,6 @@ use Rattle.desk.specs.Placing.{placedAs}
 use Rattle.desk.specs.declared.Counts.{Counts}
 use Rattle.desk.specs.declared.Placed.{Placed}
 use Rattle.desk.specs.declared.Placed.the-variants.{Done, BreaksRules, TooShort, Broken}
-use Rattle.desk.proofs.number_of.Reads as number-of
 use Rattle.desk.proofs.hear_all.Reads as hear-all
 use Rattle.desk.proofs.pressure_record.Reads as pressure-record
 use Rattle.desk.proofs.tendency_record.Reads as tendency-record
@@ -21,9 +20,6 @@ use Rattle.desk.proofs.wind_record.Reads as wind-record
 use Rattle.desk.proofs.humidity_record.Reads as humidity-record
 use Rattle.desk.proofs.place.Reads as place
 use Rattle.desk.proofs.empty.Reads as empty
-
-pub single-number-of : Single number-of.Post
-single-number-of κs a r r′ s s′ p q = p ∙ sym q
 
 pub single-hear-all : Single hear-all.Post
 single-hear-all κs a r r′ s s′ p q = ap make (p .counts ∙ sym (q .counts))

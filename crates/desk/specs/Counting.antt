@@ -3,7 +3,7 @@ use mathlib.Core.Path.{_≡_}
 use mathlib.Core.List.{List, [], _∷_}
 use Prim.Native.Nat.{ℕ, zero, suc, _+_, _-_, _/_, _^_, min}
 use lib.ListN.{length, getD, take, drop, set}
-use Rattle.number.specs.Refusal.{Answer, refused, given}
+use Rattle.number.specs.Refusal.{numberIn}
 use Rattle.store.specs.Block.{hearing, heardBy}
 
 -- "A message is 16 bytes": the first n messages of a text.
@@ -15,11 +15,6 @@ cut (suc n) s = take 16 s ∷ cut n (drop 16 s)
 unfoldable pub messages : List ℕ → List (List ℕ)
 messages s = cut ((length s + 15) / 16) s
 
--- The number of what hearing came to: that of the refusal, or 0.
-abbrev pub numberIn : {A : Type 0} → Answer ℕ A → ℕ
-numberIn (refused n) = n
-numberIn (given a) = 0
-
 -- The block after messages, the first of them heard first.
 unfoldable pub heardAll : List ℕ → List (List ℕ) → List ℕ
 heardAll s [] = s
@@ -29,7 +24,7 @@ heardAll s (m ∷ M) = heardAll (heardBy s m) M
 unfoldable pub oneMore : List ℕ → ℕ → List ℕ
 oneMore counts n = set counts n (min (getD counts n 0 + 1) (2 ^ 64 - 1))
 
--- The counts after messages, each heard by the block that those before it left.
+-- The counts after messages, each heard by the block that those before it left, and counted by the number of its refusal, or by 0.
 unfoldable pub countedAll : List ℕ → List (List ℕ) → List ℕ → List ℕ
 countedAll s [] counts = counts
 countedAll s (m ∷ M) counts = countedAll (heardBy s m) M (oneMore counts (numberIn (hearing s m)))

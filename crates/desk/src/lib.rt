@@ -6,10 +6,9 @@ ghost use lib.IntN.{ℤ};
 ghost use lib.ListN.{length, take};
 ghost use Rattle.watchfile.specs.Format.{DewRule, rankOf};
 ghost use Rattle.writer.specs.Write.{writtenAs};
-ghost use Rattle.store.specs.Block.{heardAs};
 ghost use Rattle.desk.specs.Entries.{pressureEntry, tendencyEntry, windEntry, humidityEntry};
 ghost use Rattle.desk.specs.Placing.{inserted, placedAs, writingAll, placing, Leaves, placeOf, pushed};
-ghost use Rattle.desk.specs.Counting.{messages, numberIn, HearsAll};
+ghost use Rattle.desk.specs.Counting.{messages, HearsAll};
 use block::Store;
 use number::Number;
 use reader::Verdict;
@@ -17,18 +16,16 @@ use station::HumidityAnswer;
 use station::PressureAnswer;
 use station::TendencyAnswer;
 use station::WindAnswer;
-use store::Hearing;
 use watchfile::BLANK;
 use watchfile::Body;
 use watchfile::RECORDS;
 use watchfile::Record;
-use wire::MessageRefusal;
 use writer::Written;
 
 // ---- messages, heard and counted
 
-// Refusals 1 to 8, and 0 for what was heard.
-pub const NUMBERS: usize = 9;
+// A place for every number of one byte: 0 for what was heard, then refusals, up to that of a block that is no store.
+pub const NUMBERS: usize = 256;
 
 // The bytes of a message.
 const MESSAGE: usize = 16;
@@ -36,25 +33,6 @@ const MESSAGE: usize = 16;
 // How many messages were heard, in place 0, and how many were refused by each number.
 pub struct Counts {
     pub of: [u64; NUMBERS],
-}
-
-// Document 01's number of what hearing came to, or 0.
-pub fn number_of(h: Hearing) -> usize
-    ensures { λ n. ⌜ n ≡ numberIn (heardAs h) ⌝ }
-{
-    match h {
-        Hearing::Heard => 0,
-        Hearing::NotLater => 8,
-        Hearing::Refused(r) => match r {
-            MessageRefusal::NotSixteenBytes => 1,
-            MessageRefusal::NoSuchChannel => 2,
-            MessageRefusal::ByteNotZero => 3,
-            MessageRefusal::WetBulbNotWater => 4,
-            MessageRefusal::MinuteTooLate => 5,
-            MessageRefusal::NotFinite => 6,
-            MessageRefusal::OutsideLimits => 7,
-        },
-    }
 }
 
 // A count and one more; the largest stays.
@@ -82,7 +60,7 @@ pub fn hear_all(store: &mut Store, bytes: &[u8], before: Counts) -> Counts
     let mut at: usize = 0;
     while at < bytes.len() {
         let end = smaller(at + MESSAGE, bytes.len());
-        let n = number_of(station::hear(store, &bytes[at..end]));
+        let n = store::number(store::hear(store, &bytes[at..end])) as usize;
         counts[n] = one_more(counts[n]);
         at = end;
     }

@@ -41,8 +41,11 @@ part-hear-end c = omega arith
 hear-requires : tie.Need-hear-requires Inv-loop μ-loop
 hear-requires c κs = search needs
 
-number-of-requires : tie.Need-number-of-requires Inv-loop μ-loop
-number-of-requires c κs = search needs
+number-requires : tie.Need-number-requires Inv-loop μ-loop
+number-requires c κs = search needs
+
+cast-n : tie.Need-cast-n Inv-loop μ-loop
+cast-n c = omega (arith, number-small (c .before .hear .result))
 
 mul-one-more : tie.Need-mul-one-more Inv-loop μ-loop
 mul-one-more c = omega (arith, number-small (c .before .hear .result))
@@ -69,7 +72,7 @@ loop-again c =
     let bytes = start .bytes .now in
     let end = c .before .before .before .before .before .smaller in
     let h = c .before .before .hear in
-    let n = c .before .number-of in
+    let n = c .before .number in
     let k = c .one-more in
     let message = take (end .result - l .at) (drop (l .at) bytes) in
     let rest = messages (drop (end .result) bytes) in
@@ -102,7 +105,8 @@ hear-all-spec =
     part-hear-start
     part-hear-end
     hear-requires
-    number-of-requires
+    number-requires
+    cast-n
     mul-one-more
     array-read-one-more
     one-more-requires
