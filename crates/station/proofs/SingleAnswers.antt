@@ -182,9 +182,8 @@ answer-back asked.humidity = humidity-back
 one-figure : (q : Asked) (S : Source) (m : ℕ) (x y : question q .Figures) → question q .Rule S m x → question q .Rule S m y → x ≡ y
 one-figure asked.pressure S m x y v w = v ∙ sym w
 one-figure asked.tendency S m x y v w = one-change S m x y v w
-one-figure asked.wind S m x y v w =
-    single-wind (inDegrees (S .recall 3 m)) (inKnots (S .recall 3 m)) (inMetresPerSecond (S .recall 2 m)) (inDegrees (S .recall 2 m)) x y v w
-one-figure asked.humidity S m x y v w = one-humidity (dryAt S m) (wetAt S m) (stationAt S m) (S .psychrometer) x y v w
+one-figure asked.wind S m x y v w = single-wind _ _ _ _ x y v w
+one-figure asked.humidity S m x y v w = one-humidity _ _ _ _ x y v w
 
 pub one-reply : (q : Asked) (before more : List (Test Numbered)) (S : Source) (m : ℕ) (r r′ : Reply q)
     → AnsweredBy q before more S m r → AnsweredBy q before more S m r′ → r ≡ r′

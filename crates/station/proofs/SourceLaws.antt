@@ -1,8 +1,8 @@
 -- An answer rests on nothing but what its question reads: where two sources agree on that, what the one allows the other allows.
 -- Test by test, and figure by figure. Assumes nothing.
 use mathlib.Core.Path.{_≡_, refl, ap, _∙_}
-use mathlib.Core.Bool.{Bool, true, false, not, _||_}
-use mathlib.Core.List.{[], _∷_}
+use mathlib.Core.Bool.{Bool, true, false, not, _&&_, _||_}
+use mathlib.Core.List.{List, [], _∷_}
 use Prim.Native.Nat.{ℕ, _-_}
 use lib.Dec.{eqb}
 use lib.IntN.{ℤ, _-ℤ_}
@@ -22,7 +22,6 @@ use Rattle.station.specs.declared.TendencyAnswer.{TendencyAnswer}
 use Rattle.station.specs.declared.WindAnswer.{WindAnswer}
 use Rattle.station.specs.declared.HumidityAnswer.{HumidityAnswer}
 use Rattle.station.proofs.AnswerLaws.{carry, stopped, stopped-next}
-use Rattle.station.proofs.WindLaws.{wind-of}
 
 -- What two sources must have in common for a question asked at minute m.
 pub record Agree (q : Asked) (S S′ : Source) (m : ℕ) : Type 0 where
@@ -68,21 +67,28 @@ module _ (S S′ : Source) where
 
 -- ---- minutes that are read
 
--- the minute asked for, where the question is not refused before
-same-minute : (m : ℕ) → eqb m m ≡ true
-same-minute m = eq-eqb m m refl
+-- the minute asked for, where the question is not refused before, and the other of two
+its-own : (m : ℕ) (more : List ℕ) → isIn (m ∷ more) m ≡ true
+its-own m more = rw (eq-eqb m m refl)
 
-either : (b : Bool) → (b || true) ≡ true
-either true = refl
-either false = refl
+the-other : (m j : ℕ) → isIn (m ∷ j ∷ []) j ≡ true
+the-other m j = rw (eq-eqb j j refl) (either (eqb j m))
+  where
+    either : (b : Bool) → (b || true) ≡ true
+    either true = refl
+    either false = refl
+
+both : {a b : Bool} → a ≡ true → b ≡ true → (a && b) ≡ true
+both p q = rw (p, q)
 
 module _ (S S′ : Source) (m : ℕ) where
   pressure-tells : Agree asked.pressure S S′ m → (r : PressureAnswer) (late : Bool) → tooLate m .holds ≡ late
       → Answers (pressureTests S m) (PressureRule S m) (pressureAs r) → Answers (pressureTests S′ m) (PressureRule S′ m) (pressureAs r)
   pressure-tells a r true h = stopped _ _ _ _ _ (pressureAs r) h
   pressure-tells a r false h =
-      let p = a .kept 0 m (rw (h, same-minute m)) in
-      let t = a .kept 1 m (rw (h, same-minute m)) in
+      let now : isIn (question asked.pressure .minutes m) m ≡ true = rw h (its-own m []) in
+      let p = a .kept 0 m (both refl now) in
+      let t = a .kept 1 m (both refl now) in
       carry (pressureTests S m) (pressureTests S′ m) (PressureRule S m) (PressureRule S′ m) (pressureAs r)
       (rw (missing-same S S′ m 0 p, missing-same S S′ m 1 t, outside-same S S′ (a .barometer) m p))
       (λ x w. w ∙ sea-level-same S S′ (a .barometer) m p t)
@@ -92,10 +98,12 @@ module _ (S S′ : Source) (m : ℕ) where
   tendency-tells a r true early h i = stopped _ _ _ _ _ (tendencyAs r) h
   tendency-tells a r false true h i = stopped-next _ _ _ _ _ _ (tendencyAs r) i
   tendency-tells a r false false h i =
-      let p = a .kept 0 m (rw (h, i, same-minute m)) in
-      let t = a .kept 1 m (rw (h, i, same-minute m)) in
-      let p′ = a .kept 0 (m - threeHours) (rw (h, i, same-minute (m - threeHours)) (either (eqb (m - threeHours) m))) in
-      let t′ = a .kept 1 (m - threeHours) (rw (h, i, same-minute (m - threeHours)) (either (eqb (m - threeHours) m))) in
+      let now : isIn (question asked.tendency .minutes m) m ≡ true = rw (h, i) (its-own m ((m - threeHours) ∷ [])) in
+      let before : isIn (question asked.tendency .minutes m) (m - threeHours) ≡ true = rw (h, i) (the-other m (m - threeHours)) in
+      let p = a .kept 0 m (both refl now) in
+      let t = a .kept 1 m (both refl now) in
+      let p′ = a .kept 0 (m - threeHours) (both refl before) in
+      let t′ = a .kept 1 (m - threeHours) (both refl before) in
       carry (tendencyTests S m) (tendencyTests S′ m) (λ t. TendencyRule S m t) (λ t. TendencyRule S′ m t) (tendencyAs r)
       (rw (
         missing-same S S′ (m - threeHours) 0 p′,
@@ -111,19 +119,21 @@ module _ (S S′ : Source) (m : ℕ) where
       → Answers (windTests S m) (WindRule S m) (windAs r) → Answers (windTests S′ m) (WindRule S′ m) (windAs r)
   wind-tells a r true h = stopped _ _ _ _ _ (windAs r) h
   wind-tells a r false h =
-      let wind = a .kept 2 m (rw (h, same-minute m)) in
-      let ship = a .kept 3 m (rw (h, same-minute m)) in
+      let now : isIn (question asked.wind .minutes m) m ≡ true = rw h (its-own m []) in
+      let wind = a .kept 2 m (both refl now) in
+      let ship = a .kept 3 m (both refl now) in
       carry (windTests S m) (windTests S′ m) (WindRule S m) (WindRule S′ m) (windAs r)
       (rw (missing-same S S′ m 2 wind, missing-same S S′ m 3 ship))
-      (λ w. wind-of w (ap inDegrees ship) (ap inKnots ship) (ap inMetresPerSecond wind) (ap inDegrees wind))
+      (λ w is. rw (wind, ship) at is)
 
   humidity-tells : Agree asked.humidity S S′ m → (table : ℤ → ℕ) (r : HumidityAnswer) (late : Bool) → tooLate m .holds ≡ late
       → Answers (humidityTests [] table S m) (HumidityRule S m) (humidityAs r) → Answers (humidityTests [] table S′ m) (HumidityRule S′ m) (humidityAs r)
   humidity-tells a table r true h = stopped _ _ _ _ _ (humidityAs r) h
   humidity-tells a table r false h =
-      let p = a .kept 0 m (rw (h, same-minute m)) in
-      let dry = a .kept 4 m (rw (h, same-minute m)) in
-      let wet = a .kept 5 m (rw (h, same-minute m)) in
+      let now : isIn (question asked.humidity .minutes m) m ≡ true = rw h (its-own m []) in
+      let p = a .kept 0 m (both refl now) in
+      let dry = a .kept 4 m (both refl now) in
+      let wet = a .kept 5 m (both refl now) in
       let station = station-same S S′ (a .barometer) m p in
       carry (humidityTests [] table S m) (humidityTests [] table S′ m) (HumidityRule S m) (HumidityRule S′ m) (humidityAs r)
       (rw (missing-same S S′ m 0 p, missing-same S S′ m 4 dry, missing-same S S′ m 5 wet, outside-same S S′ (a .barometer) m p, dry, wet, station, a .psychrometer))

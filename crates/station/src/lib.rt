@@ -1,5 +1,5 @@
 // What a ship calls: a store is opened, hears messages, and is asked for pressure, tendency, true wind and humidity.
-// Any block, any bytes, any minute gets an answer; asking changes nothing.
+// Any block, any bytes, any minute gets an answer, a block that is no store that it is none; asking changes nothing.
 ghost use mathlib.Core.Path.{_≡_};
 ghost use Rattle.settings.specs.Settings.{checked, checkedAs};
 ghost use Rattle.store.specs.Block.{openedBy, recallOf, Hears};
@@ -29,7 +29,7 @@ use wind::TrueWind;
 pub enum QuestionRefusal {
     // 5
     MinuteTooLate,
-    // 7: only of a block that no opening made
+    // 7: only of a block that bears a store's mark, but that no opening made
     OutsideLimits,
     // 11: channel, minute
     MissingReading(u32, Minute),
@@ -97,7 +97,8 @@ pub fn open(store: &mut Store, settings: Settings) -> Checked
     store::open(store, settings)
 }
 
-// Hears a message: it is kept, or the first of refusals 1 to 8 that holds leaves the block as it was.
+// Hears a message: it is kept, or the first of refusals 1 to 8 that holds leaves the block as it was. A block that is no store hears
+// nothing.
 pub fn hear(store: &mut Store, message: &[u8]) -> Hearing
     ensures { λ r. ⌜ Hears (now (store .entry)) (now (store .exit)) (now (message .entry)) r ⌝ }
 {
