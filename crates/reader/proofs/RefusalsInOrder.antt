@@ -1,21 +1,19 @@
 -- 18 with a place is given exactly when a field's test with that place holds and no test before it does: the fields' list is a list
 -- of tests as any other. Assumes nothing.
-use mathlib.Core.Path.{_≡_, sym, ap, _∙_}
-use mathlib.Core.List.{List}
+use mathlib.Core.Path.{_≡_, refl, sym, _∙_}
+use mathlib.Core.Bool.{Bool, true, false, cond}
+use mathlib.Core.List.{List, [], _∷_, map}
 use mathlib.Core.Logic.{_↔_}
 use Prim.Native.Nat.{ℕ}
 use lib.IntN.{ℤ}
 use lib.ListN.{length}
-use Rattle.number.specs.Refusal.{Test, refused, given, Holds, First, Numbered}
+use Rattle.number.specs.Refusal.{Test, Answer, refused, given, answer, Holds, First, Numbered}
 use Rattle.number.proofs.RefusalLaws.{refused-exactly, given-exactly}
-use Rattle.number.proofs.Sizes.{impossible}
 use Rattle.watchfile.specs.Fields.{fieldTests}
-use Rattle.watchfile.specs.Format.{fields, records, reading, brokenAt}
+use Rattle.watchfile.specs.Format.{fields, records, reading, brokenAt, fileTest, fileTests}
+use Rattle.watchfile.specs.declared.Record.{Record}
 use Rattle.reader.specs.Read.{verdictAs, counted, HandsBack}
-use Rattle.reader.specs.declared.Verdict.{Verdict}
-use Rattle.reader.specs.declared.Verdict.the-variants.{Good, Broken}
 use Rattle.reader.specs.declared.FileRead.{FileRead}
-use Rattle.reader.proofs.VerdictLaws.{broken-is}
 
 -- the tests of a file in their order, each with its place
 abbrev pub tests : (ℕ → ℤ) → List ℕ → List (Test ℕ)
@@ -29,19 +27,22 @@ pub reading-given : (rule : ℕ → ℤ) (s : List ℕ) → (reading rule s ≡ 
 unfolding reading
 reading-given rule s = given-exactly (records s) (tests rule s)
 
--- The reader's own verdict: its number and the place.
-pub read-refused : (rule : ℕ → ℤ) (s : List ℕ) (r : FileRead) → HandsBack (reading rule s) r → (place : ℕ) →
-    (verdictAs (r .verdict) ≡ refused (brokenAt place)) ↔ First (tests rule s) place
-read-refused rule s r h place = (
-  λ e. reading-refused rule s place .0 (broken-is (reading rule s) place (sym (h .verdict) ∙ e)),
-  λ w. h .verdict ∙ ap counted (reading-refused rule s place .1 w),
-)
+-- ---- the reader's own verdict, by its number and place
 
--- It refuses with nothing but 18.
-pub read-refused-18 : (rule : ℕ → ℤ) (s : List ℕ) (r : FileRead) → HandsBack (reading rule s) r → (x : Numbered) →
-    verdictAs (r .verdict) ≡ refused x → (place : ℕ) × (x ≡ brokenAt place)
-read-refused-18 rule s r h x e = go (r .verdict) e
-  where
-    go : (v : Verdict) → verdictAs v ≡ refused x → (place : ℕ) × (x ≡ brokenAt place)
-    go (Good n) e = impossible (cc)
-    go (Broken place) e = (place, cc)
+one-counted : (b : Bool) (place : ℕ) (a : Answer ℕ (List Record)) (z : Answer Numbered ℕ) → counted a ≡ z
+    → counted (cond b (refused place) a) ≡ cond b (refused (brokenAt place)) z
+one-counted true place a z e = refl
+one-counted false place a z e = e
+
+tests-counted : (ts : List (Test ℕ)) (rs : List Record) → counted (answer ts rs) ≡ answer (map fileTest ts) (length rs)
+unfolding answer
+tests-counted [] rs = refl
+tests-counted (t ∷ ts) rs = one-counted (t .holds) (t .refusal) (answer ts rs) _ (tests-counted ts rs)
+
+pub read-refused : (rule : ℕ → ℤ) (s : List ℕ) (r : FileRead) → HandsBack (reading rule s) r → (n : Numbered) →
+    (verdictAs (r .verdict) ≡ refused n) ↔ First (fileTests rule s) n
+unfolding reading
+read-refused rule s r h n =
+    let law = refused-exactly (length (records s)) (fileTests rule s) n in
+    let is = h .verdict ∙ tests-counted (tests rule s) (records s) in
+    (λ e. law .0 (sym is ∙ e), λ f. is ∙ law .1 f)

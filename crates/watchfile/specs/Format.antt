@@ -2,7 +2,7 @@
 -- `dew` is the dew point of each e: a contract speaks of every function that gives it by its rule (`DewRule`), and there is one.
 use mathlib.Core.Path.{_≡_}
 use mathlib.Core.Bool.{Bool, true, _&&_, not, cond}
-use mathlib.Core.List.{List, [], _∷_, _++_}
+use mathlib.Core.List.{List, [], _∷_, _++_, map}
 use Prim.Native.Nat.{ℕ, zero, suc, _+_, _*_}
 use lib.Dec.{leb, ltb, eqb}
 use lib.IntN.{ℤ}
@@ -124,6 +124,13 @@ records s = recordsFrom s (countOf s) 4 (startOf (countOf s))
 -- 18: "file broken", with "place"
 abbrev pub brokenAt : ℕ → Numbered
 brokenAt place = numbered 18 (place ∷ [])
+
+-- The tests of a file in their order, each with its number and its place.
+abbrev pub fileTest : Test ℕ → Test Numbered
+fileTest t = record { refusal = brokenAt (t .refusal); holds = t .holds }
+
+abbrev pub fileTests : (ℕ → ℤ) → List ℕ → List (Test Numbered)
+fileTests dew s = map fileTest (fieldTests (length s) (fields dew s))
 
 -- Reading a file: its records, or the place where it is broken.
 unfoldable pub reading : (ℕ → ℤ) → List ℕ → Answer ℕ (List Record)
