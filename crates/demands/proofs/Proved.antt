@@ -41,11 +41,10 @@ use Rattle.writer.specs.declared.Written.{Written}
 use Rattle.writer.proofs.RefusalsInOrder.{writes-in-order}
 use Rattle.writer.proofs.WriteTheorems.{refused-leaves-every-byte}
 use Rattle.reader.proofs.RefusalsInOrder.{read-refused}
-use Rattle.listing.specs.Listing.{listingOf, listing, listTests, listedAs}
-use Rattle.listing.specs.declared.Listed.{Listed}
-use Rattle.listing.proofs.RefusalsInOrder.{lists-in-order}
+use Rattle.listing.specs.Listing.{listingOf}
+use Rattle.listing.proofs.RefusalsInOrder.{list-refused}
 use Rattle.listing.proofs.ListTheorems as listed
-use Rattle.demands.specs.Working.{Opens, Hears, Working, Replies, WritesFile, ListsFile}
+use Rattle.demands.specs.Working.{Opens, Hears, Working, Replies, WritesFile}
 use Rattle.demands.specs.Demands.{Demand1, Demand2, Demand3}
 use Rattle.demands.proofs.WorkingLaws.{open-answer, open-block, hear-answer, hear-block, asks-told, asks-leaves, good, block, replies, replies-on}
 use Rattle.demands.proofs.FileLaws.{read-is, write-is, list-is, file-again, records-again, listed-as}
@@ -81,14 +80,6 @@ by-records dew ruled all count before after w v n =
     let law = writes-in-order dew all count (length before) n in
     let h = write-is all count before w after v dew ruled in
     (λ e. law .0 (sized-refused (writing dew all count (length before)) n (sym (h .answer) ∙ e)), λ f. h .answer ∙ ap sized (law .1 f))
-
-by-listing : (dew : ℕ → ℤ) → DewRule dew → (s before after : List ℕ) (l : Listed) → ListsFile s before l after
-    → (n : Numbered) → (listedAs l ≡ refused n) ↔ First (listTests (listingOf (reading dew s)) (length before)) n
-by-listing dew ruled s before after l v n =
-    let text = listingOf (reading dew s) in
-    let law = lists-in-order text (length before) n in
-    let h = list-is s before l after v dew ruled in
-    (λ e. law .0 (sized-refused (listing text (length before)) n (sym (h .answer) ∙ e)), λ f. h .answer ∙ ap sized (law .1 f))
 
 -- settings that no test refuses are good
 opens : (b : List ℕ) (g : Settings) (c : Checked) (b′ : List ℕ) → Opens b g c b′ → ((n : ℕ) → Holds (settings.tests g) n → ⊥) → Working g [] b′
@@ -138,8 +129,8 @@ demand-1 =
       asked = λ q g M m x w table tabled n.
           question-refused (question q .tests [] table (heard g M) m) (question q .Rule (heard g M) m) (question q .told x) (replies q g M m x w table tabled) n;
       write = by-records;
-      file = λ dew ruled s x w place. read-refused dew s x (read-is s x w dew ruled) place;
-      listing = by-listing;
+      file = λ dew ruled s x w n. read-refused dew s x (read-is s x w dew ruled) n;
+      listing = λ dew ruled s before after l w n. list-refused (listingOf (reading dew s)) before after l (list-is s before l after w dew ruled) n;
       opens = opens;
       goes-on = λ g M b w m. goes-on b m;
       refused-opening = λ b g c b′ n w e. open-block b g c b′ w ∙ opening-leaves b g n (sym (open-answer b g c b′ w) ∙ e);

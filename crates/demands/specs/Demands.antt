@@ -23,8 +23,7 @@ use Rattle.station.specs.Source.{heard}
 use Rattle.station.specs.Questions.{Asked, pressure, tendency, wind, humidity, question, Reply, reads, Tells}
 use Rattle.heard.specs.Feeds.{SameSettings, fedTo, Replaced, messageTests}
 use Rattle.bytes.specs.Bytes.{AreBytes}
-use Rattle.watchfile.specs.Fields.{fieldTests}
-use Rattle.watchfile.specs.Format.{DewRule, fields, reading, brokenAt, writeTests, recordRight}
+use Rattle.watchfile.specs.Format.{DewRule, reading, fileTests, writeTests, recordRight}
 use Rattle.watchfile.specs.declared.Record.{Record}
 use Rattle.reader.specs.Read.{verdictAs}
 use Rattle.reader.specs.declared.FileRead.{FileRead}
@@ -54,7 +53,7 @@ pub record Demand1 : Type 0 where
   pub write : (dew : ℕ → ℤ) → DewRule dew → (all : List Record) (count : ℕ) (before after : List ℕ) (w : Written) → WritesFile all count before w after
       → (n : Numbered) → (writtenAs w ≡ refused n) ↔ First (writeTests dew all count (length before)) n
   pub file : (dew : ℕ → ℤ) → DewRule dew → (s : List ℕ) (x : FileRead) → ReadsFile s x
-      → (place : ℕ) → (verdictAs (x .verdict) ≡ refused (brokenAt place)) ↔ First (fieldTests (length s) (fields dew s)) place
+      → (n : Numbered) → (verdictAs (x .verdict) ≡ refused n) ↔ First (fileTests dew s) n
   pub listing : (dew : ℕ → ℤ) → DewRule dew → (s before after : List ℕ) (l : Listed) → ListsFile s before l after
       → (n : Numbered) → (listedAs l ≡ refused n) ↔ First (listTests (listingOf (reading dew s)) (length before)) n
   -- Settings that no test refuses open a store, on any memory, and it goes on whatever it is sent.
