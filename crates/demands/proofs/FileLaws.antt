@@ -21,7 +21,7 @@ use Rattle.reader.specs.Read.{HandsBack}
 use Rattle.reader.specs.declared.FileRead.{FileRead}
 use Rattle.reader.specs.declared.Verdict.{Verdict}
 use Rattle.reader.specs.declared.Verdict.the-variants.{Good, Broken}
-use Rattle.reader.proofs.SingleAnswers.{verdict-by}
+use Rattle.reader.proofs.VerdictLaws.{verdict-by}
 use Rattle.writer.specs.Write.{Wrote, writtenAs}
 use Rattle.writer.specs.declared.Written.{Written}
 use Rattle.writer.specs.declared.Written.the-variants.{Done, BreaksRules, TooShort}
