@@ -1,8 +1,9 @@
 /* Zhitomrak: a ship's weather station whose every figure is proved. Link libzhitomrak.a (rt staticlib zhitomrak).
  *
  * Each function's promise stands in its comment, is proved for the compiled code's source for all arguments whatever, and allows a
- * single answer. Numbers of refusals are those of document 01, "Numbered refusals"; 0 says that nothing was refused. A refusal
- * gives no figure: figures beside one are 0. All quantities are whole numbers of the last place that document 01 shows.
+ * single answer. Numbers of refusals are those of document 01, "Numbered refusals"; 0 says that nothing was refused, and
+ * ZHITOMRAK_NO_STORE that the block was never opened. A refusal gives no figure: figures beside one are 0. All quantities are whole
+ * numbers of the last place that document 01 shows.
  *
  * What the caller owes, and the library cannot see:
  *   1. A pointer to a store is not null, is aligned for uint64_t, and points to the ZHITOMRAK_WORDS words of a zhitomrak_store that
@@ -39,6 +40,11 @@ typedef struct {
     uint64_t words[ZHITOMRAK_WORDS];
 } zhitomrak_store;
 
+/* What a block that was never opened answers to every message and to every question, and then it stays as it was: zeroed memory, or
+ * memory whose openings were all refused. It is none of document 01's numbers. A store is known by a mark in its first word, which
+ * zhitomrak_open writes there; so other memory is no store either, unless that word of it happens to be the mark. */
+#define ZHITOMRAK_NO_STORE 255u
+
 /* A point of the barometer's certificate, in tenths of the barometer's unit. */
 typedef struct {
     int32_t reading;
@@ -60,20 +66,23 @@ typedef struct {
 
 /* Opens a store: 0, and the block starts empty with these settings, whatever it held before. Or the first of these whose reason
  * holds, and the block stays as it was: 9, a setting other than the certificate is outside its limits (a unit that is none, too);
- * 10, the certificate breaks its rules. */
+ * 10, the certificate breaks its rules. So a store that was open is still open then, and a block that was never opened is still none:
+ * it answers ZHITOMRAK_NO_STORE. */
 uint32_t zhitomrak_open(zhitomrak_store *store, zhitomrak_settings settings);
 
 /* Hears a message of instruments, 16 bytes: 0, and its reading is kept; or the first of 1 to 8 whose reason holds, and the block
  * stays as it was. 1, not 16 bytes; 2, channel above 5; 3, a byte that must be zero isn't; 4, wet-bulb state not water; 5, minute
- * above 16777215; 6, infinite or not a number; 7, outside limits; 8, not later than the channel's newest. */
+ * above 16777215; 6, infinite or not a number; 7, outside limits; 8, not later than the channel's newest. Before all of them:
+ * ZHITOMRAK_NO_STORE, the block was never opened, and stays as it was too. */
 uint32_t zhitomrak_hear(zhitomrak_store *store, const uint8_t *message, size_t length);
 
-/* ---- questions: asking changes nothing ---- */
+/* ---- questions: asking changes nothing; each can also be answered ZHITOMRAK_NO_STORE ---- */
 
 /* Why a question is refused: 5, minute above 16777215; 11, a reading is absent or no longer kept (channel and minute say which); 12,
  * the barometer's reading lies outside the certificate (minute says when); 13, wet bulb above dry bulb; 14, tendency asked for a
  * minute below 180; 15, vapour pressure below 0.19 hPa. The tests stand in this order: 5, 14, 11 by minute and channel, 12 by
- * minute, 13, 15. Of a block that no zhitomrak_open made, humidity can also be refused 7, between 12 and 13. */
+ * minute, 13, 15. Before all of them: ZHITOMRAK_NO_STORE, the block was never opened. (Of a block that has a store's mark and that no
+ * zhitomrak_open made, humidity can also be refused 7, between 12 and 13.) */
 typedef struct {
     uint32_t number;  /* 0: answered */
     uint32_t channel; /* of 11, else 0 */

@@ -29,6 +29,11 @@ pub not-later : hearingLine hearing.NotLater ≡ letters "refused 8\n"
 unfolding digits decimal row
 not-later = refl
 
+-- a block that is no store
+pub no-store : hearingLine hearing.NoStore ≡ letters "refused 255\n"
+unfolding digits decimal row
+no-store = refl
+
 -- document 01's certificate figure
 pub a-pressure : pressureLine 280 (pressure.Given (record { 0 = record { v = pos 9900 } })) ≡ letters "P 280 9900\n"
 unfolding digits decimal decimalOf

@@ -1,7 +1,9 @@
 -- The station's answers as lines of text: a letter, the minute and the figures in order, or document 01's number of a refusal and
 -- what it also returns.
+use mathlib.Core.Bool.{cond}
 use mathlib.Core.List.{List, [], _∷_, _++_}
 use Prim.Native.Nat.{ℕ}
+use lib.Dec.{eqb}
 use Rattle.number.specs.Refusal.{Numbered, numbered, Answer, refused, given}
 use Rattle.text.specs.Letters.{letters}
 use Rattle.text.specs.Text.{field, fieldOf, end}
@@ -36,6 +38,10 @@ refusedLine r = letters "refused" ++ (fields (r .number ∷ r .extra) ++ end)
 abbrev pub wordLine : {A : Type 0} → List ℕ → Answer ℕ A → List ℕ
 wordLine word (given a) = word ++ end
 wordLine word (refused n) = refusedLine (numbered n [])
+
+-- The same by the number alone, 0 where nothing is refused.
+abbrev pub numberLine : List ℕ → ℕ → List ℕ
+numberLine word n = cond (eqb n 0) (word ++ end) (refusedLine (numbered n []))
 
 -- `open`
 abbrev pub openingLine : Checked → List ℕ

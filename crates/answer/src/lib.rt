@@ -4,7 +4,6 @@ ghost use mathlib.Core.Path.{_≡_};
 ghost use mathlib.Core.List.{[], _∷_, _++_};
 ghost use Prim.Native.Nat.{_≤_};
 ghost use lib.ListN.{length};
-ghost use Rattle.wire.specs.Decode.{numberOf};
 ghost use Rattle.station.specs.Told.{refusalOf};
 ghost use Rattle.station.specs.declared.PressureAnswer.the-variants as pressure;
 ghost use Rattle.station.specs.declared.TendencyAnswer.the-variants as tendency;
@@ -12,7 +11,7 @@ ghost use Rattle.station.specs.declared.WindAnswer.the-variants as wind;
 ghost use Rattle.station.specs.declared.HumidityAnswer.the-variants as humidity;
 ghost use Rattle.text.specs.Letters.{letters};
 ghost use Rattle.text.specs.Text.{field, end, Put};
-ghost use Rattle.answer.specs.Answer.{fields, refusedLine, openingLine, hearingLine, pressureLine, tendencyLine, windLine, humidityFields, humidityLine, fileLine, writtenLine};
+ghost use Rattle.answer.specs.Answer.{fields, refusedLine, numberLine, openingLine, hearingLine, pressureLine, tendencyLine, windLine, humidityFields, humidityLine, fileLine, writtenLine};
 use humidity::HumidityFigures;
 use quantity::Degrees;
 use quantity::Hectopascals;
@@ -21,10 +20,10 @@ use settings::Checked;
 use station::HumidityAnswer;
 use station::PressureAnswer;
 use station::QuestionRefusal;
+use station::Refused;
 use station::TendencyAnswer;
 use station::WindAnswer;
 use store::Hearing;
-use wire::MessageRefusal;
 use writer::Written;
 
 // Puts bytes as they are, and the end of the line.
@@ -60,62 +59,43 @@ fn put_refusal(text: &mut [u8], at: usize, numbers: &[u64]) -> usize
     text::put_byte(text, last, b'\n')
 }
 
-// The number of a message's refusal.
-fn number_of(r: MessageRefusal) -> u64
-    ensures { λ n. ⌜ n ≡ numberOf r ⌝ }
-{
-    match r {
-        MessageRefusal::NotSixteenBytes => 1,
-        MessageRefusal::NoSuchChannel => 2,
-        MessageRefusal::ByteNotZero => 3,
-        MessageRefusal::WetBulbNotWater => 4,
-        MessageRefusal::MinuteTooLate => 5,
-        MessageRefusal::NotFinite => 6,
-        MessageRefusal::OutsideLimits => 7,
-    }
-}
-
 // Puts the line of a question's refusal.
 fn put_question_refusal(text: &mut [u8], at: usize, why: QuestionRefusal) -> usize
     ensures { λ r. ⌜ Put (now (text .entry)) (now (text .exit)) at (refusedLine (refusalOf why)) r ⌝ }
 {
-    match why {
-        QuestionRefusal::MinuteTooLate => put_refusal(text, at, &[5]),
-        QuestionRefusal::OutsideLimits => put_refusal(text, at, &[7]),
-        QuestionRefusal::MissingReading(channel, minute) => {
-            put_refusal(text, at, &[11, channel as u64, minute.0 as u64])
+    match station::number(why) {
+        Refused::Plain(n) => put_refusal(text, at, &[n as u64]),
+        Refused::OfMinute(n, minute) => put_refusal(text, at, &[n as u64, minute.0 as u64]),
+        Refused::OfReading(n, channel, minute) => {
+            put_refusal(text, at, &[n as u64, channel as u64, minute.0 as u64])
         }
-        QuestionRefusal::OutsideCertificate(minute) => {
-            put_refusal(text, at, &[12, minute.0 as u64])
-        }
-        QuestionRefusal::WetAboveDry => put_refusal(text, at, &[13]),
-        QuestionRefusal::NoThreeHours => put_refusal(text, at, &[14]),
-        QuestionRefusal::TooDry => put_refusal(text, at, &[15]),
     }
 }
 
 // ---- opening and hearing
 
+// Puts a word where nothing is refused, number 0, or the refusal of this number.
+fn put_word(text: &mut [u8], at: usize, word: &[u8], number: u32) -> usize
+    ensures { λ r. ⌜ Put (now (text .entry)) (now (text .exit)) at (numberLine (now (word .entry)) number) r ⌝ }
+{
+    if number == 0 {
+        return put_line(text, at, word);
+    }
+    put_refusal(text, at, &[number as u64])
+}
+
 // Puts `open`, or the refusal.
 pub fn put_opening(text: &mut [u8], at: usize, r: Checked) -> usize
     ensures { λ place. ⌜ Put (now (text .entry)) (now (text .exit)) at (openingLine r) place ⌝ }
 {
-    match r {
-        Checked::Good => put_line(text, at, b"open"),
-        Checked::OutsideLimits => put_refusal(text, at, &[9]),
-        Checked::CertificateBroken => put_refusal(text, at, &[10]),
-    }
+    put_word(text, at, b"open", settings::number(r))
 }
 
 // Puts `heard`, or the refusal.
 pub fn put_hearing(text: &mut [u8], at: usize, r: Hearing) -> usize
     ensures { λ place. ⌜ Put (now (text .entry)) (now (text .exit)) at (hearingLine r) place ⌝ }
 {
-    match r {
-        Hearing::Heard => put_line(text, at, b"heard"),
-        Hearing::Refused(why) => put_refusal(text, at, &[number_of(why)]),
-        Hearing::NotLater => put_refusal(text, at, &[8]),
-    }
+    put_word(text, at, b"heard", store::number(r))
 }
 
 // ---- the four questions

@@ -2,8 +2,6 @@
 use mathlib.Core.Path.{sym, _∙_}
 use Rattle.number.specs.Single.{Single}
 use Rattle.told.proofs.settings_of.Reads as settings-of
-use Rattle.told.proofs.opening_number.Reads as opening-number
-use Rattle.told.proofs.hearing_number.Reads as hearing-number
 use Rattle.told.proofs.pressure_told.Reads as pressure-told
 use Rattle.told.proofs.tendency_told.Reads as tendency-told
 use Rattle.told.proofs.wind_told.Reads as wind-told
@@ -11,12 +9,6 @@ use Rattle.told.proofs.humidity_told.Reads as humidity-told
 
 pub single-settings-of : Single settings-of.Post
 single-settings-of κs a r r′ s s′ p q = p ∙ sym q
-
-pub single-opening-number : Single opening-number.Post
-single-opening-number κs a r r′ s s′ p q = p ∙ sym q
-
-pub single-hearing-number : Single hearing-number.Post
-single-hearing-number κs a r r′ s s′ p q = p ∙ sym q
 
 pub single-pressure-told : Single pressure-told.Post
 single-pressure-told κs a r r′ s s′ p q = p ∙ sym q

@@ -7,18 +7,13 @@ use Rattle.wind.specs.declared.TrueWind.{TrueWind}
 use Rattle.wind.specs.declared.TrueWind.the-variants.{Blows, OutsideLimits}
 use Rattle.humidity.specs.declared.HumidityFigures.{HumidityFigures}
 use Rattle.station.specs.Told.{Change}
+use Rattle.station.specs.Questions.{Asked, question}
+use Rattle.station.specs.Questions as asked
 use Rattle.told.specs.declared.Refusal.{Refusal}
 use Rattle.told.specs.declared.PressureTold.{PressureTold}
 use Rattle.told.specs.declared.TendencyTold.{TendencyTold}
 use Rattle.told.specs.declared.WindTold.{WindTold}
 use Rattle.told.specs.declared.HumidityTold.{HumidityTold}
-
--- The refusal's number, or 0.
-abbrev pub numberOf : Answer ℕ (Unit {0}) → ℕ
-numberOf (refused n) = n
-numberOf (given a) = 0
-
--- ---- questions
 
 -- 11 also returns "channel, minute", 12 "minute".
 abbrev pub channelIn : List ℕ → ℕ
@@ -58,3 +53,17 @@ abbrev pub humidityIn : Answer Numbered HumidityFigures → HumidityTold
 humidityIn (refused r) = record { refusal = refusalIn r; e = 0; saturation = 0; deficit = 0; relative = 0; dew = record { v = pos 0 } }
 humidityIn (given h) =
     record { refusal = none; e = h .e .0; saturation = h .saturation .0; deficit = h .deficit .0; relative = h .relative; dew = h .dew .0 }
+
+-- ---- each question
+
+abbrev pub Told : Asked → Type 0
+Told asked.pressure = PressureTold
+Told asked.tendency = TendencyTold
+Told asked.wind = WindTold
+Told asked.humidity = HumidityTold
+
+abbrev pub toldIn : (q : Asked) → Answer Numbered (question q .Figures) → Told q
+toldIn asked.pressure = pressureIn
+toldIn asked.tendency = tendencyIn
+toldIn asked.wind = windIn
+toldIn asked.humidity = humidityIn

@@ -1,15 +1,12 @@
-// Settings, openings, messages heard and answers as C sees them: document 01's number, what a refusal also returns, and figures.
-// A number of a refusal is document 01's; 0 says that nothing was refused.
+// Settings and answers as C sees them: document 01's number, what a refusal also returns, and figures. A number of 0 says that
+// nothing was refused.
 ghost use mathlib.Core.Path.{_≡_};
-ghost use Rattle.settings.specs.Settings.{checkedAs};
-ghost use Rattle.store.specs.Block.{heardAs};
 ghost use Rattle.station.specs.Told.{refusalOf, pressureAs, tendencyAs, windAs, humidityAs};
-ghost use Rattle.told.specs.Told.{numberOf, refusalIn, pressureIn, tendencyIn, windIn, humidityIn};
+ghost use Rattle.told.specs.Told.{refusalIn, pressureIn, tendencyIn, windIn, humidityIn};
 ghost use Rattle.told.specs.Opening.{unitIn, settingsIn};
 use number::Kept;
 use number::Number;
 use quantity::BarometerUnit;
-use settings::Checked;
 use settings::Height;
 use settings::POINTS;
 use settings::Point;
@@ -20,10 +17,9 @@ use settings::TemperatureCoefficient;
 use station::HumidityAnswer;
 use station::PressureAnswer;
 use station::QuestionRefusal;
+use station::Refused;
 use station::TendencyAnswer;
 use station::WindAnswer;
-use store::Hearing;
-use wire::MessageRefusal;
 
 // The settings of a store. The unit is 0 for hPa and 1 for mm Hg.
 #[repr(C)]
@@ -44,6 +40,13 @@ pub struct Refusal {
     pub channel: u32,
     pub minute: u32,
 }
+
+// Nothing is refused.
+const NONE: Refusal = Refusal {
+    number: 0,
+    channel: 0,
+    minute: 0,
+};
 
 // Figures are 0 where the question is refused.
 #[repr(C)]
@@ -76,7 +79,7 @@ pub struct HumidityTold {
     pub dew: Kept,
 }
 
-// ---- opening and hearing
+// ---- opening
 
 // The unit of a number.
 fn unit_of(n: u32) -> BarometerUnit
@@ -109,77 +112,27 @@ pub fn settings_of(s: StoreSettings) -> Settings
     }
 }
 
-// Document 01's number of refused settings, 0 for good ones.
-pub fn opening_number(c: Checked) -> u32
-    ensures { λ r. ⌜ r ≡ numberOf (checkedAs c) ⌝ }
-{
-    match c {
-        Checked::Good => 0,
-        Checked::OutsideLimits => 9,
-        Checked::CertificateBroken => 10,
-    }
-}
-
-// Document 01's number of a refused message, 0 for one that is heard.
-pub fn hearing_number(h: Hearing) -> u32
-    ensures { λ r. ⌜ r ≡ numberOf (heardAs h) ⌝ }
-{
-    match h {
-        Hearing::Heard => 0,
-        Hearing::Refused(r) => match r {
-            MessageRefusal::NotSixteenBytes => 1,
-            MessageRefusal::NoSuchChannel => 2,
-            MessageRefusal::ByteNotZero => 3,
-            MessageRefusal::WetBulbNotWater => 4,
-            MessageRefusal::MinuteTooLate => 5,
-            MessageRefusal::NotFinite => 6,
-            MessageRefusal::OutsideLimits => 7,
-        },
-        Hearing::NotLater => 8,
-    }
-}
-
 // ---- questions
 
 // Why a question is refused, as a number with channel and minute.
 fn refusal_of(r: QuestionRefusal) -> Refusal
     ensures { λ x. ⌜ x ≡ refusalIn (refusalOf r) ⌝ }
 {
-    match r {
-        QuestionRefusal::MinuteTooLate => Refusal {
-            number: 5,
+    match station::number(r) {
+        Refused::Plain(number) => Refusal {
+            number,
             channel: 0,
             minute: 0,
         },
-        QuestionRefusal::OutsideLimits => Refusal {
-            number: 7,
-            channel: 0,
-            minute: 0,
-        },
-        QuestionRefusal::MissingReading(c, m) => Refusal {
-            number: 11,
-            channel: c,
-            minute: m.0,
-        },
-        QuestionRefusal::OutsideCertificate(m) => Refusal {
-            number: 12,
+        Refused::OfMinute(number, m) => Refusal {
+            number,
             channel: 0,
             minute: m.0,
         },
-        QuestionRefusal::WetAboveDry => Refusal {
-            number: 13,
-            channel: 0,
-            minute: 0,
-        },
-        QuestionRefusal::NoThreeHours => Refusal {
-            number: 14,
-            channel: 0,
-            minute: 0,
-        },
-        QuestionRefusal::TooDry => Refusal {
-            number: 15,
-            channel: 0,
-            minute: 0,
+        Refused::OfReading(number, channel, m) => Refusal {
+            number,
+            channel,
+            minute: m.0,
         },
     }
 }
@@ -192,11 +145,7 @@ pub fn pressure_told(a: PressureAnswer) -> PressureTold
         PressureAnswer::Given(p) => {
             let pressure = p.0;
             PressureTold {
-                refusal: Refusal {
-                    number: 0,
-                    channel: 0,
-                    minute: 0,
-                },
+                refusal: NONE,
                 pressure,
             }
         }
@@ -215,11 +164,7 @@ pub fn tendency_told(a: TendencyAnswer) -> TendencyTold
         TendencyAnswer::Given(c, absent) => {
             let change = c.0;
             TendencyTold {
-                refusal: Refusal {
-                    number: 0,
-                    channel: 0,
-                    minute: 0,
-                },
+                refusal: NONE,
                 change,
                 absent,
             }
@@ -241,11 +186,7 @@ pub fn wind_told(a: WindAnswer) -> WindTold
     match a {
         WindAnswer::Given(v, d) => {
             WindTold {
-                refusal: Refusal {
-                    number: 0,
-                    channel: 0,
-                    minute: 0,
-                },
+                refusal: NONE,
                 speed: v.0,
                 direction: d.0,
             }
@@ -270,11 +211,7 @@ pub fn humidity_told(a: HumidityAnswer) -> HumidityTold
             let t = h.dew;
             let dew = t.0;
             HumidityTold {
-                refusal: Refusal {
-                    number: 0,
-                    channel: 0,
-                    minute: 0,
-                },
+                refusal: NONE,
                 e: e.0,
                 saturation: saturation.0,
                 deficit: deficit.0,

@@ -1,18 +1,17 @@
 -- Each exported contract allows a single answer, and `open`, `hear`, `write` and `list` a single content of what they are lent: the
 -- station's answer is one, and it is told in one way; the dew point has one rule. Assumes nothing.
-use mathlib.Core.Path.{sym, ap, _∙_}
+use mathlib.Core.Path.{_≡_, sym, ap, _∙_}
+use mathlib.Core.List.{List, [], _∷_}
+use Prim.Native.Nat.{ℕ}
 use denote.Ref.{now}
 use Rattle.number.specs.Single.{Single, SingleLeft}
 use Rattle.watchfile.proofs.DewRules.{the-rule}
 use Rattle.station.specs.Source.{held}
-use Rattle.station.specs.Questions.{foreign}
-use Rattle.station.specs.Told.{pressureAs, tendencyAs, windAs, humidityAs}
-use Rattle.station.specs.declared.PressureAnswer.{PressureAnswer}
-use Rattle.station.specs.declared.TendencyAnswer.{TendencyAnswer}
-use Rattle.station.specs.declared.WindAnswer.{WindAnswer}
-use Rattle.station.specs.declared.HumidityAnswer.{HumidityAnswer}
-use Rattle.station.proofs.SingleAnswers.{one-pressure, one-tendency, one-wind, one-humidity-answer}
-use Rattle.told.specs.Told.{pressureIn, tendencyIn, windIn, humidityIn}
+use Rattle.station.specs.Questions.{Asked, Reply, question, noStore, foreignTo}
+use Rattle.station.specs.Questions as asked
+use Rattle.station.proofs.SingleAnswers.{one-reply}
+use Rattle.told.specs.Told.{Told, toldIn}
+use Rattle.zhitomrak.specs.Calls.{AnsweredAs}
 use Rattle.zhitomrak.proofs.zhitomrak_open.Reads as opening
 use Rattle.zhitomrak.proofs.zhitomrak_hear.Reads as hear
 use Rattle.zhitomrak.proofs.zhitomrak_pressure.Reads as pressure
@@ -39,31 +38,24 @@ single-hear-left κs a r r′ s s′ p q = p .block ∙ sym (q .block)
 
 -- ---- questions
 
+one-told : (q : Asked) (s s₁ s₂ : List ℕ) (m : ℕ) (r r′ : Told q) → AnsweredAs q s s₁ m r → AnsweredAs q s s₂ m r′ → r ≡ r′
+one-told q s s₁ s₂ m r r′ v w =
+    v .told
+    ∙ ap (λ (x : Reply q). toldIn q (question q .told x))
+    (one-reply q (noStore s ∷ []) (foreignTo q (held s) m) (held s) m (v .answer) (w .answer) (v .right) (w .right))
+    ∙ sym (w .told)
+
 pub single-pressure : Single pressure.Post
-single-pressure κs a r r′ s s′ p q =
-    p .told
-    ∙ ap (λ (x : PressureAnswer). pressureIn (pressureAs x)) (one-pressure (held (now (a .0))) (a .1 .0) (p .answer) (q .answer) (p .right) (q .right))
-    ∙ sym (q .told)
+single-pressure κs a r r′ s s′ p q = one-told asked.pressure (now (a .0)) (now (s .0)) (now (s′ .0)) (a .1 .0) r r′ p q
 
 pub single-tendency : Single tendency.Post
-single-tendency κs a r r′ s s′ p q =
-    p .told
-    ∙ ap (λ (x : TendencyAnswer). tendencyIn (tendencyAs x)) (one-tendency (held (now (a .0))) (a .1 .0) (p .answer) (q .answer) (p .right) (q .right))
-    ∙ sym (q .told)
+single-tendency κs a r r′ s s′ p q = one-told asked.tendency (now (a .0)) (now (s .0)) (now (s′ .0)) (a .1 .0) r r′ p q
 
 pub single-wind : Single wind.Post
-single-wind κs a r r′ s s′ p q =
-    p .told
-    ∙ ap (λ (x : WindAnswer). windIn (windAs x)) (one-wind (held (now (a .0))) (a .1 .0) (p .answer) (q .answer) (p .right) (q .right))
-    ∙ sym (q .told)
+single-wind κs a r r′ s s′ p q = one-told asked.wind (now (a .0)) (now (s .0)) (now (s′ .0)) (a .1 .0) r r′ p q
 
 pub single-humidity : Single humidity.Post
-single-humidity κs a r r′ s s′ p q =
-    let S = held (now (a .0)) in
-    p .told
-    ∙ ap (λ (x : HumidityAnswer). humidityIn (humidityAs x))
-    (one-humidity-answer (foreign S (a .1 .0)) S (a .1 .0) (p .answer) (q .answer) (p .right) (q .right))
-    ∙ sym (q .told)
+single-humidity κs a r r′ s s′ p q = one-told asked.humidity (now (a .0)) (now (s .0)) (now (s′ .0)) (a .1 .0) r r′ p q
 
 -- ---- watch files
 

@@ -6,22 +6,17 @@ use Prim.Native.Nat.{ℕ}
 use lib.Dec.{ltb}
 use lib.IntN.{ℤ}
 use lib.ListN.{length}
+use Rattle.number.specs.Refusal.{numberIn}
 use Rattle.settings.specs.Settings.{checked}
 use Rattle.store.specs.Block.{openedBy, hearing, heardBy, outcome}
-use Rattle.station.specs.Source.{Source}
-use Rattle.station.specs.Questions.{foreign}
-use Rattle.station.specs.Told.{pressureAs, tendencyAs, windAs, humidityAs, TellsPressure, TellsTendency, TellsWind, TellsHumidity}
+use Rattle.station.specs.Questions.{Asked, Reply, question, TellsOf}
 use Rattle.watchfile.specs.Format.{writing}
 use Rattle.watchfile.specs.declared.Record.{Record}
 use Rattle.bytes.specs.Lent.{sized, leftBy}
 use Rattle.listing.specs.Listing.{listing}
-use Rattle.told.specs.Told.{numberOf, pressureIn, tendencyIn, windIn, humidityIn}
+use Rattle.told.specs.Told.{Told, toldIn}
 use Rattle.told.specs.Opening.{settingsIn}
 use Rattle.told.specs.declared.StoreSettings.{StoreSettings}
-use Rattle.told.specs.declared.PressureTold.{PressureTold}
-use Rattle.told.specs.declared.TendencyTold.{TendencyTold}
-use Rattle.told.specs.declared.WindTold.{WindTold}
-use Rattle.told.specs.declared.HumidityTold.{HumidityTold}
 use Rattle.filed.specs.Files.{writeIn, listIn}
 use Rattle.filed.specs.declared.WriteTold.{WriteTold}
 use Rattle.filed.specs.declared.ListTold.{ListTold}
@@ -34,34 +29,23 @@ noUnit g = ltb 1 (g .unit)
 
 -- The block s was opened with settings g, is s′ then, and r is the answer.
 pub record OpenedAs (s s′ : List ℕ) (g : StoreSettings) (r : ℕ) : Type 0 where
-  pub answer : r ≡ cond (noUnit g) 9 (numberOf (checked (settingsIn g)))
+  pub answer : r ≡ cond (noUnit g) 9 (numberIn (checked (settingsIn g)))
   pub block : s′ ≡ cond (noUnit g) s (openedBy s (settingsIn g))
 
 -- A message was heard, and answered by r.
 pub record HeardAs (s s′ m : List ℕ) (r : ℕ) : Type 0 where
-  pub answer : r ≡ numberOf (outcome (hearing s m))
+  pub answer : r ≡ numberIn (outcome (hearing s m))
   pub block : s′ ≡ heardBy s m
 
 -- ---- questions
 
--- r tells an answer that is right.
-pub record Tells {E C : Type 0} (Right : E → Type 0) (shown : E → C) (r : C) : Type 0 where
-  pub answer : E
-  pub right : Right answer
-  pub told : r ≡ shown answer
-
--- What is right is the station's promise, word for word.
-abbrev pub PressureTells : Source → ℕ → PressureTold → Type 0
-PressureTells S m = Tells (TellsPressure S m) (λ a. pressureIn (pressureAs a))
-
-abbrev pub TendencyTells : Source → ℕ → TendencyTold → Type 0
-TendencyTells S m = Tells (TellsTendency S m) (λ a. tendencyIn (tendencyAs a))
-
-abbrev pub WindTells : Source → ℕ → WindTold → Type 0
-WindTells S m = Tells (TellsWind S m) (λ a. windIn (windAs a))
-
-abbrev pub HumidityTells : Source → ℕ → HumidityTold → Type 0
-HumidityTells S m = Tells (TellsHumidity (foreign S m) S m) (λ a. humidityIn (humidityAs a))
+-- A question was asked of the block s, which is s′ then, and r tells an answer that is right: what is right is the station's promise,
+-- word for word. "Asking changes nothing."
+pub record AnsweredAs (q : Asked) (s s′ : List ℕ) (m : ℕ) (r : Told q) : Type 0 where
+  pub answer : Reply q
+  pub right : TellsOf q s m answer
+  pub told : r ≡ toldIn q (question q .told answer)
+  pub block : s′ ≡ s
 
 -- ---- watch files
 

@@ -1,15 +1,16 @@
 // What ships' software calls from C and Rust: a static library over the station and the watch file.
-// Any block, bytes, numbers and room get an answer. A number of a refusal is document 01's; 0 says that nothing was refused.
+// Any block, bytes, numbers and room get an answer. A number of a refusal is document 01's; 0 says that nothing was refused, and 255,
+// which is none of document 01's, that the block was never opened.
 ghost use mathlib.Core.Path.{_≡_};
 ghost use mathlib.Core.List.{map};
 ghost use Prim.Native.Nat.{ℕ};
 ghost use lib.IntN.{ℤ};
-ghost use Rattle.station.specs.Source.{held};
+ghost use Rattle.station.specs.Questions as asked;
 ghost use Rattle.watchfile.specs.Format.{DewRule, reading};
 ghost use Rattle.listing.specs.Listing.{listingOf};
 ghost use Rattle.filed.specs.Files.{fileIn};
 ghost use Rattle.handed.specs.Handed.{recordOf};
-ghost use Rattle.zhitomrak.specs.Calls.{OpenedAs, HeardAs, PressureTells, TendencyTells, WindTells, HumidityTells, WroteAs, ListedAs};
+ghost use Rattle.zhitomrak.specs.Calls.{OpenedAs, HeardAs, AnsweredAs, WroteAs, ListedAs};
 use block::Store;
 use filed::FileRecords;
 use filed::FileTold;
@@ -23,8 +24,8 @@ use told::WindTold;
 
 // ---- opening and hearing
 
-// Opens a store in the block: 0, and nothing is heard yet; or 9 or 10, and the block stays as it was. A unit that is neither 0
-// nor 1 is 9.
+// Opens a store in the block: 0, and nothing is heard yet; or 9 or 10, and the block stays as it was, opened before or not. A unit
+// that is neither 0 nor 1 is 9.
 #[no_mangle]
 pub extern "C" fn zhitomrak_open(store: &mut Store, settings: StoreSettings) -> u32
     ensures { λ r. ⌜ OpenedAs (now (store .entry)) (now (store .exit)) settings r ⌝ }
@@ -32,23 +33,23 @@ pub extern "C" fn zhitomrak_open(store: &mut Store, settings: StoreSettings) -> 
     if settings.unit > 1 {
         return 9;
     }
-    told::opening_number(station::open(store, told::settings_of(settings)))
+    settings::number(station::open(store, told::settings_of(settings)))
 }
 
-// Hears a message: 0, and it is kept; or 1 to 8, and the block stays as it was.
+// Hears a message: 0, and it is kept; or 1 to 8, and the block stays as it was. So does one that was never opened: 255.
 #[no_mangle]
 pub extern "C" fn zhitomrak_hear(store: &mut Store, message: &[u8]) -> u32
     ensures { λ r. ⌜ HeardAs (now (store .entry)) (now (store .exit)) (now (message .entry)) r ⌝ }
 {
-    told::hearing_number(station::hear(store, message))
+    store::number(station::hear(store, message))
 }
 
-// ---- questions
+// ---- questions: of a block that was never opened the answer is 255
 
 // The pressure at sea level at a minute, in tenths of hPa; refusals 5, 11 and 12.
 #[no_mangle]
 pub extern "C" fn zhitomrak_pressure(store: &Store, minute: u32) -> PressureTold
-    ensures { λ r. ⌜ PressureTells (held (now (store .entry))) minute r ⌝ }
+    ensures { λ r. ⌜ AnsweredAs asked.pressure (now (store .entry)) (now (store .exit)) minute r ⌝ }
 {
     told::pressure_told(station::pressure(store, minute))
 }
@@ -57,7 +58,7 @@ pub extern "C" fn zhitomrak_pressure(store: &Store, minute: u32) -> PressureTold
 // refusals 5, 14, 11 and 12.
 #[no_mangle]
 pub extern "C" fn zhitomrak_tendency(store: &Store, minute: u32) -> TendencyTold
-    ensures { λ r. ⌜ TendencyTells (held (now (store .entry))) minute r ⌝ }
+    ensures { λ r. ⌜ AnsweredAs asked.tendency (now (store .entry)) (now (store .exit)) minute r ⌝ }
 {
     told::tendency_told(station::tendency(store, minute))
 }
@@ -65,16 +66,16 @@ pub extern "C" fn zhitomrak_tendency(store: &Store, minute: u32) -> TendencyTold
 // The true wind at a minute: speed in tenths of m/s, and the direction it comes from, 1 to 360 or 0 in a calm; refusals 5 and 11.
 #[no_mangle]
 pub extern "C" fn zhitomrak_wind(store: &Store, minute: u32) -> WindTold
-    ensures { λ r. ⌜ WindTells (held (now (store .entry))) minute r ⌝ }
+    ensures { λ r. ⌜ AnsweredAs asked.wind (now (store .entry)) (now (store .exit)) minute r ⌝ }
 {
     told::wind_told(station::wind(store, minute))
 }
 
 // Humidity at a minute: vapour pressure, saturation and deficit in hundredths of hPa, relative humidity in percent, dew point in
-// tenths of °C; refusals 5, 11, 12, 13 and 15. (7 only of a block that no opening made.)
+// tenths of °C; refusals 5, 11, 12, 13 and 15. (7 only of a block that has a store's mark and that no opening made.)
 #[no_mangle]
 pub extern "C" fn zhitomrak_humidity(store: &Store, minute: u32) -> HumidityTold
-    ensures { λ r. ⌜ HumidityTells (held (now (store .entry))) minute r ⌝ }
+    ensures { λ r. ⌜ AnsweredAs asked.humidity (now (store .entry)) (now (store .exit)) minute r ⌝ }
 {
     told::humidity_told(station::humidity(store, minute))
 }

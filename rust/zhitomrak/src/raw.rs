@@ -3,6 +3,8 @@
 
 /// The words of a store's block.
 pub const WORDS: usize = 1588;
+/// What a block that was never opened answers, none of document 01's numbers.
+pub const NO_STORE: u32 = 255;
 /// The most points of a certificate.
 pub const POINTS: usize = 16;
 /// The most records of a watch file.

@@ -1,4 +1,4 @@
-//! Document 01's numbered refusals, each with what it also returns.
+//! Document 01's numbered refusals, each with what it also returns, and the answer of a block that was never opened.
 
 use std::fmt;
 
@@ -60,10 +60,14 @@ pub enum Refused {
         /// The first byte of the first wrong field, the file's length where a field is cut short, or the first extra byte.
         place: usize,
     },
+    /// 255, none of document 01's numbers: the block was never opened, so there is no store to hear or to ask. A
+    /// [`Store`](crate::Store) is opened where it is made and never answers this; the library itself does, of memory that no
+    /// opening made.
+    NoStore,
 }
 
 impl Refused {
-    /// Document 01's number.
+    /// Document 01's number, or that of [`Refused::NoStore`].
     pub const fn number(self) -> u32 {
         match self {
             Refused::NotSixteenBytes => 1,
@@ -84,6 +88,7 @@ impl Refused {
             Refused::BreaksRules { .. } => 16,
             Refused::TooShort { .. } => 17,
             Refused::Broken { .. } => 18,
+            Refused::NoStore => raw::NO_STORE,
         }
     }
 }
@@ -104,7 +109,7 @@ impl fmt::Display for Refused {
 
 impl std::error::Error for Refused {}
 
-/// What an opening or a hearing of this number came to.
+/// What an opening or a hearing of this number came to: numbers are 0 to 10 and 255, by the contracts.
 #[inline]
 pub(crate) fn numbered(number: u32) -> Result<(), Refused> {
     Err(match number {
@@ -118,11 +123,12 @@ pub(crate) fn numbered(number: u32) -> Result<(), Refused> {
         7 => Refused::OutsideLimits,
         8 => Refused::NotLater,
         9 => Refused::Setting,
-        _ => Refused::Certificate,
+        10 => Refused::Certificate,
+        _ => Refused::NoStore,
     })
 }
 
-/// What a question of this refusal came to: numbers are 0, 5, 7 and 11 to 15, by the contracts.
+/// What a question of this refusal came to: numbers are 0, 5, 7, 11 to 15 and 255, by the contracts.
 #[inline]
 pub(crate) fn asked(why: raw::Refusal) -> Result<(), Refused> {
     let raw::Refusal {
@@ -138,6 +144,7 @@ pub(crate) fn asked(why: raw::Refusal) -> Result<(), Refused> {
         12 => Refused::OutsideCertificate { minute },
         13 => Refused::WetAboveDry,
         14 => Refused::NoThreeHours,
-        _ => Refused::TooDry,
+        15 => Refused::TooDry,
+        _ => Refused::NoStore,
     })
 }

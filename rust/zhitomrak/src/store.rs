@@ -164,3 +164,50 @@ impl Store {
         })
     }
 }
+
+#[cfg(test)]
+mod tests {
+    use super::*;
+
+    /// Whether a message and each question are answered as by no store, and the block stays all zeros.
+    fn is_no_store(block: Box<[u64; raw::WORDS]>) {
+        let mut store = Store { block };
+        let none = Some(Refused::NoStore);
+        let mut message = [0; 16];
+        message[8..12].copy_from_slice(&1000.0_f32.to_le_bytes());
+        // neither a good message nor a wrong one is heard, and no minute is asked for first
+        assert_eq!(store.hear(&message).err(), none);
+        assert_eq!(store.hear(&message[..15]).err(), none);
+        for minute in [0, 179, 180, 16_777_215, 16_777_216, u32::MAX] {
+            assert_eq!(store.pressure(minute).err(), none);
+            assert_eq!(store.tendency(minute).err(), none);
+            assert_eq!(store.wind(minute).err(), none);
+            assert_eq!(store.humidity(minute).err(), none);
+        }
+        assert_eq!(Refused::NoStore.to_string(), "refused 255");
+        assert!(store.block.iter().all(|&word| word == 0));
+    }
+
+    #[test]
+    fn zeroed_memory_is_no_store() {
+        is_no_store(Box::new([0; raw::WORDS]));
+    }
+
+    #[test]
+    fn a_refused_opening_gives_no_store() {
+        let settings = |unit, psychrometer, count| raw::Settings {
+            unit,
+            height: 0,
+            difference: 0,
+            coefficient: 0,
+            psychrometer,
+            count,
+            points: [raw::Point::default(); raw::POINTS],
+        };
+        let mut block = Box::new([0; raw::WORDS]);
+        assert_eq!(raw::open(&mut block, settings(2, 662, 2)), 9);
+        assert_eq!(raw::open(&mut block, settings(0, 499, 2)), 9);
+        assert_eq!(raw::open(&mut block, settings(1, 662, 1)), 10);
+        is_no_store(block);
+    }
+}

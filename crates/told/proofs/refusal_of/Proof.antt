@@ -1,65 +1,37 @@
--- `refusal_of` meets its contract: case by case. Assumes nothing.
+-- `refusal_of` meets its contract: by what the number also returns. Assumes nothing.
 use borrow.Author.Needs.{needs}
 use Rattle.told.proofs.refusal_of.Statement.{statement}
 use Rattle.told.proofs.refusal_of.Tie as tie
 
-enum-told : tie.Need-enum-told
-enum-told c = search needs
+number-requires : tie.Need-number-requires
+number-requires c κs = search needs
 
-enum-told-2 : tie.Need-enum-told-2
-enum-told-2 c = search needs
+enum-known-number : tie.Need-enum-known-number
+enum-known-number c = search needs
 
-enum-known-r : tie.Need-enum-known-r
-enum-known-r c = search needs
+enum-known-number-2 : tie.Need-enum-known-number-2
+enum-known-number-2 c = search needs
 
-enum-known-r-2 : tie.Need-enum-known-r-2
-enum-known-r-2 c = search needs
-
-enum-told-3 : tie.Need-enum-told-3
-enum-told-3 c = search needs
-
-enum-told-4 : tie.Need-enum-told-4
-enum-told-4 c = search needs
-
-enum-told-5 : tie.Need-enum-told-5
-enum-told-5 c = search needs
+enum-known-number-3 : tie.Need-enum-known-number-3
+enum-known-number-3 c = search needs
 
 returns : tie.Need-returns
-returns c = rw (c .enum-told .given .1)
+returns c = rw (← c .before .before .before .number .ensures, c .before .number2 .given .1)
 
 returns-2 : tie.Need-returns-2
-returns-2 c = rw (c .enum-told2 .given .1)
+returns-2 c = rw (← c .before .before .before .number .ensures, c .before .number3 .given .1)
 
 returns-3 : tie.Need-returns-3
-returns-3 c = rw (c .before .r .given .1)
-
-returns-4 : tie.Need-returns-4
-returns-4 c = rw (c .before .r2 .given .1)
-
-returns-5 : tie.Need-returns-5
-returns-5 c = rw (c .enum-told3 .given .1)
-
-returns-6 : tie.Need-returns-6
-returns-6 c = rw (c .enum-told4 .given .1)
-
-returns-7 : tie.Need-returns-7
-returns-7 c = rw (c .enum-told5 .given .1)
+returns-3 c = rw (← c .before .before .before .number .ensures, c .before .number4 .given .1)
 
 pub refusal-of-spec : {M : Type 1} → statement M
 refusal-of-spec =
     tie.close
     (tie.spec
-    enum-told
-    enum-told-2
-    enum-known-r
-    enum-known-r-2
-    enum-told-3
-    enum-told-4
-    enum-told-5
+    number-requires
+    enum-known-number
+    enum-known-number-2
+    enum-known-number-3
     returns
     returns-2
-    returns-3
-    returns-4
-    returns-5
-    returns-6
-    returns-7)
+    returns-3)

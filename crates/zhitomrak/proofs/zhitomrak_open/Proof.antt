@@ -3,7 +3,7 @@ use mathlib.Core.Path.{ap, _∙_}
 use borrow.Author.Tests.{lt-ltb, le-ltb}
 use Rattle.settings.specs.Settings.{checked}
 use Rattle.store.specs.Block.{openedBy}
-use Rattle.told.specs.Told.{numberOf}
+use Rattle.number.specs.Refusal.{numberIn}
 use borrow.Author.Needs.{needs}
 use Rattle.zhitomrak.proofs.zhitomrak_open.Statement.{statement}
 use Rattle.zhitomrak.proofs.zhitomrak_open.Tie as tie
@@ -17,8 +17,8 @@ settings-of-requires c κs = search needs
 open-requires : tie.Need-open-requires
 open-requires c κs = search needs
 
-opening-number-requires : tie.Need-opening-number-requires
-opening-number-requires c κs = search needs
+number-requires : tie.Need-number-requires
+number-requires c κs = search needs
 
 returns-2 : tie.Need-returns-2
 returns-2 c =
@@ -26,11 +26,11 @@ returns-2 c =
     let g = c .before .before .settings-of .ensures in
     let unit = le-ltb _ _ (c .before .before .before .before .if1 .left) in
     record {
-      answer = rw unit (c .opening-number .ensures ∙ ap numberOf (it .0 ∙ ap checked g));
+      answer = rw unit (c .number .ensures ∙ ap numberIn (it .0 ∙ ap checked g));
       block = rw unit (it .1 ∙ ap (openedBy _) g);
     }
 
 pub zhitomrak-open-spec : {M : Type 1} → statement M
 zhitomrak-open-spec =
     tie.close
-    (tie.spec returns settings-of-requires open-requires opening-number-requires returns-2)
+    (tie.spec returns settings-of-requires open-requires number-requires returns-2)

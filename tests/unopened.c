@@ -1,0 +1,64 @@
+/* Memory that was never opened is no store: zeroed, and after openings that were all refused, it answers ZHITOMRAK_NO_STORE to a
+ * message and to the four questions, and stays all zeros. */
+#include <stdio.h>
+#include <string.h>
+
+#include "zhitomrak.h"
+
+static zhitomrak_store store;
+static int wrong;
+
+static void expect(const char *what, uint32_t got, uint32_t wanted)
+{
+    if (got != wanted) {
+        printf("%s: %u, not %u\n", what, (unsigned)got, (unsigned)wanted);
+        wrong = 1;
+    }
+}
+
+/* A refusal has its number, and nothing else. */
+static void expect_refusal(const char *what, zhitomrak_refusal why)
+{
+    expect(what, why.number, ZHITOMRAK_NO_STORE);
+    expect(what, why.channel, 0);
+    expect(what, why.minute, 0);
+}
+
+static void expect_no_store(void)
+{
+    static const zhitomrak_store zeros;
+    static const uint32_t minutes[] = {0, 179, 180, 16777215, 16777216, UINT32_MAX};
+    float pressure = 1000.0f;
+    uint8_t message[16] = {0};
+    memcpy(message + 8, &pressure, 4);
+    expect("a message", zhitomrak_hear(&store, message, 16), ZHITOMRAK_NO_STORE);
+    expect("a message of 15 bytes", zhitomrak_hear(&store, message, 15), ZHITOMRAK_NO_STORE);
+    for (size_t i = 0; i < sizeof minutes / sizeof minutes[0]; i++) {
+        zhitomrak_pressure_answer p = zhitomrak_pressure(&store, minutes[i]);
+        zhitomrak_tendency_answer t = zhitomrak_tendency(&store, minutes[i]);
+        zhitomrak_wind_answer w = zhitomrak_wind(&store, minutes[i]);
+        zhitomrak_humidity_answer h = zhitomrak_humidity(&store, minutes[i]);
+        expect_refusal("pressure", p.refusal);
+        expect_refusal("tendency", t.refusal);
+        expect_refusal("wind", w.refusal);
+        expect_refusal("humidity", h.refusal);
+        if (p.pressure || t.change || t.absent || w.speed || w.direction || h.e || h.saturation || h.deficit || h.relative || h.dew)
+            expect("a figure beside a refusal", 1, 0);
+    }
+    expect("a word that was written", memcmp(&store, &zeros, sizeof store) != 0, 0);
+}
+
+int main(void)
+{
+    zhitomrak_settings settings = {.unit = 2, .psychrometer = 662, .count = 2, .points = {{8500, 0}, {11000, 0}}};
+    expect_no_store();
+    expect("a unit that is none", zhitomrak_open(&store, settings), 9);
+    settings.unit = ZHITOMRAK_HPA;
+    settings.height = 601;
+    expect("a height of 60.1 m", zhitomrak_open(&store, settings), 9);
+    settings.height = 0;
+    settings.count = 1;
+    expect("a certificate of one point", zhitomrak_open(&store, settings), 10);
+    expect_no_store();
+    return wrong;
+}
