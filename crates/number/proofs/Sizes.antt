@@ -1,6 +1,7 @@
--- The sizes of signed numbers, as naturals that omega reads, and what a range says of the number. Assumes nothing.
+-- The sizes of signed numbers, as naturals that omega reads, and what a range says of the number; before that, what true and false
+-- are to each other. Assumes nothing.
 use mathlib.Core.Path.{_≡_, refl}
-use mathlib.Core.Bool.{Bool, true, false, _&&_}
+use mathlib.Core.Bool.{Bool, true, false, _&&_, cond}
 use Prim.Native.Nat.{ℕ, zero, suc, _+_, _*_, _≤_, _<_}
 use native.Mathlib.Omega.{arith}
 use native.Mathlib.Nat.{le-refl}
@@ -41,7 +42,7 @@ size-mul (pos a) (negsuc b) = size-neg (pos (a * suc b))
 size-mul (negsuc a) (pos b) = size-neg (pos (suc a * b))
 size-mul (negsuc a) (negsuc b) = refl
 
--- ---- what can not be
+-- ---- one or the other
 
 -- two constructors are never equal: of an equation that says so, cc makes this one
 pub impossible : {A : Type 0} → _≡_ {A = ℕ} 0 1 → A
@@ -50,6 +51,11 @@ impossible e = absurd (omega arith)
 -- false is not true
 pub never : {A : Type 0} → false ≡ true → A
 never e = impossible (cc)
+
+-- what holds of two things holds of whichever is picked
+pub either-way : {A : Type 0} (P : A → Type 0) (b : Bool) (x y : A) → P x → P y → P (cond b x y)
+either-way P true x y p q = p
+either-way P false x y p q = q
 
 -- ---- what a range says of the number
 

@@ -4,11 +4,10 @@ use mathlib.Core.Path.{_≡_, sym, ap, _∙_}
 use mathlib.Core.List.{List}
 use mathlib.Core.Logic.{_↔_}
 use Prim.Native.Nat.{ℕ}
-use native.Mathlib.Omega.{arith}
 use lib.IntN.{ℤ}
 use lib.ListN.{length}
 use Rattle.number.specs.Refusal.{Test, refused, given, Holds, First, Numbered}
-use Rattle.number.proofs.RefusalLaws.{refused-exactly, given-exactly}
+use Rattle.number.proofs.RefusalLaws.{given-not-refused, refused-exactly, given-exactly}
 use Rattle.watchfile.specs.Fields.{fieldTests}
 use Rattle.watchfile.specs.Format.{fields, records, reading, brokenAt}
 use Rattle.reader.specs.Read.{verdictAs, counted, HandsBack}
@@ -43,5 +42,5 @@ pub read-refused-18 : (rule : ℕ → ℤ) (s : List ℕ) (r : FileRead) → Han
 read-refused-18 rule s r h x e = go (r .verdict) e
   where
     go : (v : Verdict) → verdictAs v ≡ refused x → (place : ℕ) × (x ≡ brokenAt place)
-    go (Good n) e = absurd (let z : _≡_ {A = ℕ} 0 1 = cc in omega arith)
+    go (Good n) e = given-not-refused e
     go (Broken place) e = (place, cc)

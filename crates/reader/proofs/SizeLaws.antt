@@ -3,20 +3,18 @@ use mathlib.Core.Bool.{Bool, true, false, cond}
 use mathlib.Core.List.{List}
 use Prim.Native.Nat.{ℕ, _≤_}
 use native.Mathlib.Omega.{arith}
-use lib.Dec.{eqb}
+use lib.Dec.{eqb, lit≤}
 use lib.IntN.{ℤ}
+use Rattle.number.proofs.Sizes.{either-way}
 use Rattle.watchfile.specs.Rules.{sizeOf}
 use Rattle.watchfile.specs.Format.{pressureFields, tendencyFields, windFields, humidityFields, bodyFields}
 use Rattle.watchfile.proofs.FieldLaws.{Passed, Ordered}
 
-most-by : (a b c : Bool) → cond a 2 (cond b 3 (cond c 4 9)) ≤ 9
-most-by true b c = omega arith
-most-by false true c = omega arith
-most-by false false true = omega arith
-most-by false false false = omega arith
-
 pub size-most : (kind : ℕ) → sizeOf kind ≤ 9
-size-most kind = most-by (eqb kind 1) (eqb kind 2) (eqb kind 3)
+size-most kind =
+    either-way (λ n. n ≤ 9) (eqb kind 1) _ _ (lit≤ tt)
+    (either-way (λ n. n ≤ 9) (eqb kind 2) _ _ (lit≤ tt)
+    (either-way (λ n. n ≤ 9) (eqb kind 3) _ _ (lit≤ tt) (lit≤ tt)))
 
 module _ (rule : ℕ → ℤ) (s : List ℕ) where
   whole-by : (n : ℕ) (a b c : Bool) → Passed n (cond a (pressureFields s) (cond b (tendencyFields s) (cond c (windFields s) (humidityFields rule s))))
@@ -29,11 +27,8 @@ module _ (rule : ℕ → ℤ) (s : List ℕ) where
   pub body-whole : (n kind : ℕ) → Passed n (bodyFields rule kind s) → sizeOf kind ≤ n
   body-whole n kind p = whole-by n (eqb kind 1) (eqb kind 2) (eqb kind 3) p
 
-  ordered-by : (a b c : Bool) → Ordered (cond a (pressureFields s) (cond b (tendencyFields s) (cond c (windFields s) (humidityFields rule s))))
-  ordered-by true b c = (omega arith, tt)
-  ordered-by false true c = (omega arith, (omega arith, tt))
-  ordered-by false false true = (omega arith, (omega arith, tt))
-  ordered-by false false false = (omega arith, (omega arith, (omega arith, (omega arith, (omega arith, tt)))))
-
   pub body-ordered : (kind : ℕ) → Ordered (bodyFields rule kind s)
-  body-ordered kind = ordered-by (eqb kind 1) (eqb kind 2) (eqb kind 3)
+  body-ordered kind =
+      either-way Ordered (eqb kind 1) _ _ (omega arith, tt)
+      (either-way Ordered (eqb kind 2) _ _ (omega arith, (omega arith, tt))
+      (either-way Ordered (eqb kind 3) _ _ (omega arith, (omega arith, tt)) (omega arith, (omega arith, (omega arith, (omega arith, (omega arith, tt)))))))

@@ -3,10 +3,10 @@
 use mathlib.Core.Path.{_≡_, sym, ap, _∙_}
 use mathlib.Core.List.{List}
 use Prim.Native.Nat.{ℕ, _-_}
-use native.Mathlib.Omega.{arith}
 use lib.ListN.{length, getD, take, replicate}
 use lib.Seq.{take-append-seam}
 use Rattle.number.specs.Refusal.{Answer, refused, given, Numbered}
+use Rattle.number.proofs.RefusalLaws.{refused-not-given}
 use Rattle.watchfile.specs.Format.{blank, brokenAt}
 use Rattle.watchfile.specs.declared.Record.{Record}
 use Rattle.reader.specs.Read.{verdictAs, counted, places}
@@ -29,7 +29,7 @@ broken-is (given rs) place e = cc
 
 pub good-is : (a : Answer ℕ (List Record)) (n : ℕ) (all : List Record) → counted a ≡ given n → all ≡ places a
     → (a ≡ given (take n all)) × (length (take n all) ≡ n)
-good-is (refused k) n all e f = absurd (let z : _≡_ {A = ℕ} 0 1 = cc in omega arith)
+good-is (refused k) n all e f = refused-not-given e
 good-is (given rs) n all e f =
     let many : length rs ≡ n = cc in
     let front : take n all ≡ rs = rw (sym many, f) (take-append-seam rs (replicate (48 - length rs) blank)) in

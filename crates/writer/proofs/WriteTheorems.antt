@@ -3,11 +3,11 @@
 use mathlib.Core.Path.{_≡_, refl, sym, ap, _∙_}
 use mathlib.Core.List.{List, _++_}
 use Prim.Native.Nat.{ℕ}
-use native.Mathlib.Omega.{arith}
 use lib.IntN.{ℤ}
 use lib.ListN.{length, take, drop}
 use lib.Seq.{take-at, drop-at}
 use Rattle.number.specs.Refusal.{Answer, refused, given, Numbered}
+use Rattle.number.proofs.RefusalLaws.{refused-not-given, given-not-refused}
 use Rattle.watchfile.specs.Format.{DewRule, reading, writing}
 use Rattle.watchfile.specs.declared.Record.{Record}
 use Rattle.writer.specs.Write.{Wrote, writtenAs, sized, leftBy}
@@ -17,10 +17,10 @@ use Rattle.writer.proofs.RoundTrips.{written-then-read}
 
 sized-refused : (a : Answer Numbered (List ℕ)) (b : List ℕ) (r : Numbered) → sized a ≡ refused r → leftBy b a ≡ b
 sized-refused (refused q) b r e = refl
-sized-refused (given file) b r e = let z : _≡_ {A = ℕ} 0 1 = cc in absurd (omega arith)
+sized-refused (given file) b r e = given-not-refused e
 
 sized-given : (a : Answer Numbered (List ℕ)) (b : List ℕ) (n : ℕ) → sized a ≡ given n → (file : List ℕ) × (a ≡ given file) × (length file ≡ n) × (leftBy b a ≡ file ++ drop n b)
-sized-given (refused q) b n e = let z : _≡_ {A = ℕ} 0 1 = cc in absurd (omega arith)
+sized-given (refused q) b n e = refused-not-given e
 sized-given (given file) b n e = let l : length file ≡ n = cc in (file, refl, l, ap (λ (k : ℕ). file ++ drop k b) l)
 
 module _ (rule : ℕ → ℤ) (all : List Record) (count : ℕ) (before after : List ℕ) where
