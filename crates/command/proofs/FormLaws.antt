@@ -12,7 +12,7 @@ use lib.Seq.{drop-cons}
 use borrow.Author.Tests.{lt-ltb, le-ltb, le-leb, lt-leb}
 use Rattle.text.specs.Text.{Put}
 use Rattle.text.proofs.PutLaws.{join, put-nothing}
-use Rattle.line.specs.Words.{Word, run, wordsFrom, words, field, more, fields, same, part, wordAt, wordsAt}
+use Rattle.line.specs.Words.{Word, before, wordsFrom, words, field, more, fields, same, part, wordAt, wordsAt}
 use Rattle.line.specs.declared.Said.{Said}
 use Rattle.line.specs.declared.Said.the-variants.{Number, NoNumber}
 use Rattle.line.proofs.WordLaws.{WordIs, part-cons, part-length}
@@ -247,7 +247,7 @@ at-inside (x ∷ l) (suc i) d e h = at-inside l i d e (omega arith)
 
 -- the text of the table says its rows
 pub table-is : rowsOf 0 (words (textOf table)) ≡ table
-unfolding run wordsFrom rowsOf
+unfolding before wordsFrom rowsOf
 table-is = refl
 
 -- ---- a line by its first word

@@ -10,6 +10,7 @@ use lib.Dec.{leb, eqb}
 use lib.ListN.{length, getD, drop, drop-of-length-le}
 use lib.Seq.{drop-cons}
 use borrow.Author.Tests.{leb-true, le-leb, lt-leb}
+use Rattle.number.proofs.Sizes.{impossible, never}
 use Rattle.text.specs.Text.{said}
 use Rattle.line.specs.Numeral.{digit, everyDigit, natural, upTo, minus, whole, less, plus, signed}
 use Rattle.line.specs.declared.Said.{Said}
@@ -69,7 +70,7 @@ up-to-given most n h = rw (le-leb n most h)
 -- ---- the sign
 
 pub minus-some : (s : List ℕ) → minus s ≡ true → 1 ≤ length s
-minus-some [] e = absurd (let z : _≡_ {A = ℕ} 0 1 = cc in omega arith)
+minus-some [] e = never e
 minus-some (b ∷ s) e = omega arith
 
 pub minus-none : (s : List ℕ) → length s ≡ 0 → minus s ≡ false
@@ -82,12 +83,12 @@ minus-first (b ∷ s) h = refl
 
 -- no larger than asked for
 pub up-to-most : (most n : ℕ) (a : Said) → Number n ≡ upTo most a → n ≤ most
-up-to-most most n NoNumber e = absurd (let z : _≡_ {A = ℕ} 0 1 = cc in omega arith)
+up-to-most most n NoNumber e = impossible (cc)
 up-to-most most n (Number m) e = go (leb m most) refl e
   where
     go : (t : Bool) → leb m most ≡ t → Number n ≡ cond t (Number m) NoNumber → n ≤ most
     go true b e = let same : n ≡ m = cc in omega (arith, leb-true m most b)
-    go false b e = absurd (let z : _≡_ {A = ℕ} 0 1 = cc in omega arith)
+    go false b e = impossible (cc)
 
 -- by the sign
 pub whole-minus : (most : ℕ) (s : List ℕ) → minus s ≡ true → whole most s ≡ upTo 0 (natural (drop 1 s))

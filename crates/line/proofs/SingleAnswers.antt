@@ -6,6 +6,7 @@ use Prim.Native.Nat.{ℕ, _+_}
 use native.Mathlib.Omega.{arith}
 use lib.ListN.{length}
 use Rattle.number.specs.Single.{Single}
+use Rattle.number.proofs.Sizes.{impossible}
 use Rattle.line.specs.Words.{Word, part}
 use Rattle.line.specs.Next.{wordsTold, NextWord}
 use Rattle.line.specs.declared.Part.{Part}
@@ -30,8 +31,8 @@ stop-of (w ∷ ws) = w .from + length (w .bytes)
 one-next : (line : List ℕ) (at : ℕ) (r r′ : Part) → NextWord line at r → NextWord line at r′ → r ≡ r′
 unfolding start-of stop-of
 one-next line at End End p q = refl
-one-next line at End (Between from to) p q = absurd (let e = sym (p .words) ∙ q .words in let z : _≡_ {A = ℕ} 0 1 = cc in omega arith)
-one-next line at (Between from to) End p q = absurd (let e = sym (q .words) ∙ p .words in let z : _≡_ {A = ℕ} 0 1 = cc in omega arith)
+one-next line at End (Between from to) p q = let e = sym (p .words) ∙ q .words in impossible (cc)
+one-next line at (Between from to) End p q = let e = sym (q .words) ∙ p .words in impossible (cc)
 one-next line at (Between from to) (Between from′ to′) p q =
     let e : wordsTold line (Between from to) ≡ wordsTold line (Between from′ to′) = sym (p .words) ∙ q .words in
     let starts : from ≡ from′ = ap start-of e in

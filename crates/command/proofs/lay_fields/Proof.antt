@@ -6,8 +6,9 @@ use native.Mathlib.Omega.{arith}
 use lib.ListN.{length, getD, drop}
 use borrow.Author.Tests.{eq-eqb, ne-eqb}
 use Rattle.text.proofs.PutLaws.{put-inside}
-use Rattle.line.specs.Words.{fields, fieldsAt, part}
-use Rattle.line.proofs.FieldLaws.{end-inside, fields-here, fields-past, fields-all}
+use Rattle.line.specs.Words.{colon, fields, fieldsAt, part}
+use Rattle.line.proofs.EndLaws.{end-inside}
+use Rattle.line.proofs.FieldLaws.{fields-here, fields-past, fields-all}
 use Rattle.command.specs.Forms.{fieldsTold}
 use Rattle.command.specs.Laid.{Lays}
 use Rattle.command.specs.declared.Laid.{Laid}
@@ -64,17 +65,17 @@ field-end-requires c κs = search needs
 
 sub-told : tie.Need-sub-told Inv-loop μ-loop
 sub-told c =
-    let z = end-inside (c .before .before .before .before .before .before .before .before .before .args .word .now) (c .before .before .before .before .before .loop .from) (omega arith) in
+    let z = end-inside colon (c .before .before .before .before .before .before .before .before .before .args .word .now) (c .before .before .before .before .before .loop .from) (omega arith) in
     omega (arith, c .field-end .ensures)
 
 part-told-start : tie.Need-part-told-start Inv-loop μ-loop
 part-told-start c =
-    let z = end-inside (c .before .before .before .before .before .before .before .before .before .args .word .now) (c .before .before .before .before .before .loop .from) (omega arith) in
+    let z = end-inside colon (c .before .before .before .before .before .before .before .before .before .args .word .now) (c .before .before .before .before .before .loop .from) (omega arith) in
     omega (arith, c .field-end .ensures)
 
 part-told-end : tie.Need-part-told-end Inv-loop μ-loop
 part-told-end c =
-    let z = end-inside (c .before .before .before .before .before .before .before .before .before .args .word .now) (c .before .before .before .before .before .loop .from) (omega arith) in
+    let z = end-inside colon (c .before .before .before .before .before .before .before .before .before .args .word .now) (c .before .before .before .before .before .loop .from) (omega arith) in
     omega (arith, c .field-end .ensures)
 
 told-requires : tie.Need-told-requires Inv-loop μ-loop
@@ -104,7 +105,7 @@ put-requires-2 c κs = search needs
 
 add-from : tie.Need-add-from Inv-loop μ-loop
 add-from c =
-    let z = end-inside (c .before .before .before .before .before .before .before .before .before .before .before .before .before .before .before .before .before .before .args .word .now) (c .before .before .before .before .before .before .before .before .before .before .before .before .before .before .loop .from) (omega arith) in
+    let z = end-inside colon (c .before .before .before .before .before .before .before .before .before .before .before .before .before .before .before .before .before .before .args .word .now) (c .before .before .before .before .before .before .before .before .before .before .before .before .before .before .loop .from) (omega arith) in
     omega (arith, c .before .before .before .before .before .before .before .before .before .field-end .ensures)
 
 add-i-2 : tie.Need-add-i-2 Inv-loop μ-loop
@@ -118,7 +119,7 @@ loop-again-2 c =
     let q = c .before .before .before .before .before .before .before .before .before .before .before .before .before .before .before .before .before .before .args in
     let l = c .before .before .before .before .before .before .before .before .before .before .before .before .before .before .loop in
     let to = c .before .before .before .before .before .before .before .before .before .field-end .result in
-    let inside = end-inside (q .word .now) (l .from) (omega arith) in
+    let inside = end-inside colon (q .word .now) (l .from) (omega arith) in
     let f : fieldsAt (q .word .now) (l .from) ≡ part (q .word .now) (l .from) to ∷ fieldsAt (q .word .now) (to + 1) = rw (c .before .before .before .before .before .before .before .before .before .field-end .ensures) (fields-here (q .word .now) (l .from) (omega arith)) in
     let e = field-told (q .form .now) (l .i) (fieldsAt (q .word .now) (l .from)) (c .before .before .before .before .before .before .before .before .before .before .before .before .before .loop-test .taken) (ne-eqb _ _ (c .before .before .before .before .before .before .before .before .before .before .before .if1 .left)) f in
     let n = such-told (getD (q .form .now) (l .i) 0) (fieldsTold (drop (l .i + 1) (q .form .now)) (fieldsAt (q .word .now) (to + 1))) (sym (c .before .before .before .before .before .before .before .told .ensures) ∙ c .before .before .before .before .before .n .given .1) in

@@ -6,9 +6,10 @@ use native.Mathlib.Omega.{arith}
 use lib.ListN.{length}
 use borrow.Author.Tests.{eq-eqb, ne-eqb}
 use Rattle.text.proofs.PutLaws.{put-inside}
-use Rattle.line.specs.Words.{field, wordsAt}
+use Rattle.line.specs.Words.{colon, field, wordsAt}
 use Rattle.line.proofs.WordLaws.{word-is, word-end-is}
-use Rattle.line.proofs.FieldLaws.{end-first, field-fits}
+use Rattle.line.proofs.EndLaws.{before-short}
+use Rattle.line.proofs.FieldLaws.{end-first}
 use Rattle.command.specs.Forms.{lineTold}
 use Rattle.command.specs.declared.Command.{Command}
 use Rattle.command.specs.declared.Command.the-variants.{Does, Wrong}
@@ -39,7 +40,7 @@ enum-told : tie.Need-enum-told Inv-loop μ-loop
 enum-told c = search needs
 
 shared-slice-read-if2 : tie.Need-shared-slice-read-if2 Inv-loop μ-loop
-shared-slice-read-if2 c = omega (arith, c .before .before .before .before .before .loop .inv .0, field-fits (c .before .before .before .before .before .before .before .before .before .before .args .form .now))
+shared-slice-read-if2 c = omega (arith, c .before .before .before .before .before .loop .inv .0, before-short colon (c .before .before .before .before .before .before .before .before .before .before .args .form .now))
 
 same-length : tie.Need-same-length Inv-loop μ-loop
 same-length c = search needs

@@ -4,8 +4,9 @@ use mathlib.Core.List.{_∷_}
 use Prim.Native.Nat.{_+_, _-_}
 use native.Mathlib.Omega.{arith}
 use lib.ListN.{length}
-use Rattle.line.specs.Words.{fieldsAt, part}
-use Rattle.line.proofs.FieldLaws.{end-inside, fields-here, fields-past}
+use Rattle.line.specs.Words.{colon, fieldsAt, part}
+use Rattle.line.proofs.EndLaws.{end-inside}
+use Rattle.line.proofs.FieldLaws.{fields-here, fields-past}
 use Rattle.command.specs.Forms.{listTold}
 use Rattle.command.specs.declared.Flaw.the-variants.{Misshapen}
 use Rattle.command.proofs.FormLaws.{lays-ends, list-none, list-here, list-on}
@@ -27,17 +28,17 @@ field-end-requires c κs = search needs
 
 sub-form : tie.Need-sub-form Inv-loop μ-loop
 sub-form c =
-    let z = end-inside (c .before .before .before .before .before .before .args .forms .now) (c .before .before .loop .from) (c .before .loop-test .taken) in
+    let z = end-inside colon (c .before .before .before .before .before .before .args .forms .now) (c .before .before .loop .from) (c .before .loop-test .taken) in
     omega (arith, c .field-end .ensures)
 
 part-form-start : tie.Need-part-form-start Inv-loop μ-loop
 part-form-start c =
-    let z = end-inside (c .before .before .before .before .before .before .args .forms .now) (c .before .before .loop .from) (c .before .loop-test .taken) in
+    let z = end-inside colon (c .before .before .before .before .before .before .args .forms .now) (c .before .before .loop .from) (c .before .loop-test .taken) in
     omega (arith, c .field-end .ensures)
 
 part-form-end : tie.Need-part-form-end Inv-loop μ-loop
 part-form-end c =
-    let z = end-inside (c .before .before .before .before .before .before .args .forms .now) (c .before .before .loop .from) (c .before .loop-test .taken) in
+    let z = end-inside colon (c .before .before .before .before .before .before .args .forms .now) (c .before .before .loop .from) (c .before .loop-test .taken) in
     omega (arith, c .field-end .ensures)
 
 fits-requires : tie.Need-fits-requires Inv-loop μ-loop
@@ -59,12 +60,12 @@ returns c =
 
 add-from : tie.Need-add-from Inv-loop μ-loop
 add-from c =
-    let z = end-inside (c .before .before .before .before .before .before .before .before .before .args .forms .now) (c .before .before .before .before .before .loop .from) (c .before .before .before .before .loop-test .taken) in
+    let z = end-inside colon (c .before .before .before .before .before .before .before .before .before .args .forms .now) (c .before .before .before .before .before .loop .from) (c .before .before .before .before .loop-test .taken) in
     omega (arith, c .before .before .before .field-end .ensures)
 
 loop-less : tie.Need-loop-less Inv-loop μ-loop
 loop-less c =
-    let z = end-inside (c .before .before .before .before .before .before .before .before .before .args .forms .now) (c .before .before .before .before .before .loop .from) (c .before .before .before .before .loop-test .taken) in
+    let z = end-inside colon (c .before .before .before .before .before .before .before .before .before .args .forms .now) (c .before .before .before .before .before .loop .from) (c .before .before .before .before .loop-test .taken) in
     omega (arith, c .before .before .before .field-end .ensures)
 
 loop-again : tie.Need-loop-again Inv-loop μ-loop

@@ -4,8 +4,9 @@ use Prim.Native.Nat.{_+_}
 use native.Mathlib.Omega.{arith}
 use lib.ListN.{length, getD}
 use Rattle.text.proofs.PutLaws.{put-inside}
-use Rattle.line.specs.Words.{field}
-use Rattle.line.proofs.FieldLaws.{fields-here, fields-past, field-fits, more-first}
+use Rattle.line.specs.Words.{colon, field}
+use Rattle.line.proofs.EndLaws.{before-short}
+use Rattle.line.proofs.FieldLaws.{fields-here, fields-past, more-first}
 use Rattle.command.specs.Forms.{ends}
 use Rattle.command.specs.declared.Flaw.the-variants.{NoFlaw, NotSuch, LeftOver}
 use Rattle.command.proofs.FormLaws.{lays-ends, lays-one, such-told, not-such, fixed-told, left-told, left-over, left-listed}
@@ -14,7 +15,7 @@ use Rattle.command.proofs.lay_word.Statement.{statement}
 use Rattle.command.proofs.lay_word.Tie as tie
 
 shared-slice-read-letter : tie.Need-shared-slice-read-letter
-shared-slice-read-letter c = omega (arith, c .before .before .before .before .before .pre .0, field-fits (c .before .before .before .before .before .args .form .now))
+shared-slice-read-letter c = omega (arith, c .before .before .before .before .before .pre .0, before-short colon (c .before .before .before .before .before .args .form .now))
 
 told-requires : tie.Need-told-requires
 told-requires c κs = search needs
@@ -58,7 +59,7 @@ returns-3 c =
     rw (e, n) (lays-ends (q .numbers .now) (q .place) LeftOver (c .before .before .before .before .before .pre .1))
 
 add-lay-listed : tie.Need-add-lay-listed
-add-lay-listed c = omega (arith, c .before .before .before .before .before .pre .0, field-fits (c .before .before .before .before .before .args .form .now))
+add-lay-listed c = omega (arith, c .before .before .before .before .before .pre .0, before-short colon (c .before .before .before .before .before .args .form .now))
 
 lay-listed-requires : tie.Need-lay-listed-requires
 lay-listed-requires c κs = search needs
@@ -70,7 +71,7 @@ returns-4 : tie.Need-returns-4
 returns-4 c =
     let q = c .before .before .before .before .before .before .before .before .before .args in
     let fixed = c .before .before .before .before .before .before .before .before .before .pre .0 in
-    let short = field-fits (q .form .now) in
+    let short = before-short colon (q .form .now) in
     let e = left-told (q .form .now) (q .number) (q .word .now) (omega arith) in
     let m = more-first (q .form .now) in
     let n = left-listed (q .word .now) (m ∙ fields-here (q .form .now) (length (field (q .form .now)) + 1) (omega arith)) in
