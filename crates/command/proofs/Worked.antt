@@ -10,7 +10,7 @@ use Rattle.quantity.specs.declared.BarometerUnit.the-variants.{Millimetres}
 use Rattle.settings.specs.Settings.{nowhere}
 use Rattle.settings.specs.declared.Point.{Point}
 use Rattle.watchfile.specs.declared.Body.the-variants as body
-use Rattle.line.specs.Words.{before, wordsFrom, field, more, same}
+use Rattle.line.specs.Words.{before, wordsFrom, more, same}
 use Rattle.line.specs.Numeral.{everyDigit, whole, signed}
 use Rattle.hex.specs.Hex.{hexValue, isHex}
 use Rattle.command.specs.Forms.{Told, named, told, fieldsTold, fits, listTold, wordTold, mayEnd, lineTold}

@@ -9,7 +9,7 @@ use Rattle.line.proofs.EndLaws.{end-inside}
 use Rattle.line.proofs.FieldLaws.{fields-here, fields-past}
 use Rattle.command.specs.Forms.{listTold}
 use Rattle.command.specs.declared.Flaw.the-variants.{Misshapen}
-use Rattle.command.proofs.FormLaws.{lays-ends, list-none, list-here, list-on}
+use Rattle.command.proofs.FormLaws.{leaves-ends, list-none, list-here, list-on}
 use borrow.Author.Needs.{needs}
 use Rattle.command.proofs.lay_listed.Statement.{statement}
 use Rattle.command.proofs.lay_listed.Tie as tie
@@ -83,7 +83,7 @@ returns-2 : tie.Need-returns-2 Inv-loop μ-loop
 returns-2 c =
     let q = c .before .before .before .before .before .args in
     let l = c .before .loop in
-    rw (← l .inv .1, list-none (q .word .now) (fields-past (q .forms .now) (l .from) (c .loop-test .left)), ← l .inv .0) (lays-ends (l .numbers) (q .place) Misshapen (omega (arith, c .before .before .before .before .before .pre, ap length (l .inv .0))))
+    rw (← l .inv .1, list-none (q .word .now) (fields-past (q .forms .now) (l .from) (c .loop-test .left)), ← l .inv .0) (leaves-ends (l .numbers) (q .place) Misshapen (omega (arith, c .before .before .before .before .before .pre, ap length (l .inv .0))))
 
 pub lay-listed-spec : {M : Type 1} → statement M
 lay-listed-spec =

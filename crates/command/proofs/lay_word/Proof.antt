@@ -9,7 +9,7 @@ use Rattle.line.proofs.EndLaws.{before-short}
 use Rattle.line.proofs.FieldLaws.{fields-here, fields-past, more-first}
 use Rattle.command.specs.Forms.{ends}
 use Rattle.command.specs.declared.Flaw.the-variants.{NoFlaw, NotSuch, LeftOver}
-use Rattle.command.proofs.FormLaws.{lays-ends, lays-one, such-told, not-such, fixed-told, left-told, left-over, left-listed}
+use Rattle.command.proofs.FormLaws.{leaves-ends, leaves-one, such-told, not-such, fixed-told, left-told, left-over, left-listed}
 use borrow.Author.Needs.{needs}
 use Rattle.command.proofs.lay_word.Statement.{statement}
 use Rattle.command.proofs.lay_word.Tie as tie
@@ -35,7 +35,7 @@ returns c =
     let letter = getD (q .form .now) (q .number) 0 in
     let e = fixed-told (q .form .now) (q .number) (q .word .now) (omega (arith, c .before .before .before .before .before .before .before .before .pre .0)) in
     let n = not-such letter (ends NoFlaw) (sym (c .before .before .told .ensures) ∙ c .enum-told .given .1) in
-    rw (e, n) (lays-ends (q .numbers .now) (q .place) (NotSuch letter) (c .before .before .before .before .before .before .before .before .pre .1))
+    rw (e, n) (leaves-ends (q .numbers .now) (q .place) (NotSuch letter) (c .before .before .before .before .before .before .before .before .pre .1))
 
 same-length : tie.Need-same-length
 same-length c = search needs
@@ -48,7 +48,7 @@ returns-2 c =
     let n = such-told letter (ends NoFlaw) (sym (c .before .before .before .before .before .before .before .told .ensures) ∙ c .before .before .before .before .before .n .given .1) in
     let p = c .before .before .put .ensures in
     let z = put-inside p in
-    rw (e, n) (lays-one p (omega arith))
+    rw (e, n) (leaves-one p (omega arith))
 
 returns-3 : tie.Need-returns-3
 returns-3 c =
@@ -56,7 +56,7 @@ returns-3 c =
     let fixed = c .before .before .before .before .before .pre .0 in
     let e = left-told (q .form .now) (q .number) (q .word .now) (omega arith) in
     let n = left-over (q .word .now) (more-first (q .form .now) ∙ fields-past (q .form .now) (length (field (q .form .now)) + 1) (omega arith)) in
-    rw (e, n) (lays-ends (q .numbers .now) (q .place) LeftOver (c .before .before .before .before .before .pre .1))
+    rw (e, n) (leaves-ends (q .numbers .now) (q .place) LeftOver (c .before .before .before .before .before .pre .1))
 
 add-lay-listed : tie.Need-add-lay-listed
 add-lay-listed c = omega (arith, c .before .before .before .before .before .pre .0, before-short colon (c .before .before .before .before .before .args .form .now))
