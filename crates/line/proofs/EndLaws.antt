@@ -1,12 +1,13 @@
 -- Laws of what stands before the first byte that parts, whichever bytes part: where it ends is found byte by byte. Assumes nothing.
 use mathlib.Core.Path.{_≡_, refl, ap}
-use mathlib.Core.Bool.{Bool, true, false, cond}
+use mathlib.Core.Bool.{Bool, true, false}
 use mathlib.Core.List.{List, [], _∷_}
 use Prim.Native.Nat.{ℕ, suc, _+_, _-_, _≤_, _<_}
 use native.Mathlib.Omega.{arith}
 use native.Mathlib.Numerals.{add-one}
 use lib.ListN.{length, getD, take, drop, length-drop, drop-of-length-le}
 use lib.Seq.{drop-cons}
+use Rattle.number.proofs.Sizes.{either-way}
 use Rattle.line.specs.Words.{before, part, endFrom}
 
 module _ (parts : ℕ → Bool) where
@@ -15,20 +16,14 @@ module _ (parts : ℕ → Bool) where
   before-whole : (s : List ℕ) → before parts s ≡ take (length (before parts s)) s
   unfolding before
   before-whole [] = refl
-  before-whole (b ∷ s) = go (before-whole s) (parts b)
-    where
-      go : before parts s ≡ take (length (before parts s)) s → (t : Bool) → cond t [] (b ∷ before parts s) ≡ take (length (cond t [] (b ∷ before parts s))) (b ∷ s)
-      go ih true = refl
-      go ih false = ap (λ (x : List ℕ). b ∷ x) ih
+  before-whole (b ∷ s) =
+      either-way (λ x. x ≡ take (length x) (b ∷ s)) (parts b) [] (b ∷ before parts s) refl (ap (λ (x : List ℕ). b ∷ x) (before-whole s))
 
   pub before-short : (s : List ℕ) → length (before parts s) ≤ length s
   unfolding before
   before-short [] = omega arith
-  before-short (b ∷ s) = go (before-short s) (parts b)
-    where
-      go : length (before parts s) ≤ length s → (t : Bool) → length (cond t [] (b ∷ before parts s)) ≤ suc (length s)
-      go ih true = omega arith
-      go ih false = omega arith
+  before-short (b ∷ s) =
+      either-way (λ x. length x ≤ suc (length s)) (parts b) [] (b ∷ before parts s) (omega arith) (omega (arith, before-short s))
 
   -- ---- where it ends
 
