@@ -3,7 +3,7 @@
 use mathlib.Core.Path.{_≡_, refl, ap, _∙_}
 use mathlib.Core.Bool.{Bool, true, false, cond}
 use mathlib.Core.List.{List, [], _∷_}
-use Prim.Native.Nat.{ℕ, zero, suc, _+_, _-_, _≤_, _<_}
+use Prim.Native.Nat.{ℕ, zero, suc, _+_, _≤_, _<_}
 use native.Mathlib.Omega.{arith}
 use native.Mathlib.Numerals.{add-one}
 use lib.Dec.{eqb}
@@ -12,17 +12,16 @@ use lib.Seq.{drop-cons}
 use borrow.Author.Tests.{lt-ltb, le-ltb, le-leb, lt-leb}
 use Rattle.text.specs.Text.{Put}
 use Rattle.text.proofs.PutLaws.{join, put-nothing}
-use Rattle.line.specs.Words.{Word, run, wordsFrom, words, field, more, fields, same, part, wordAt, wordsAt}
+use Rattle.line.specs.Words.{Word, before, wordsFrom, words, field, more, fields, same, part, wordAt, wordsAt}
 use Rattle.line.specs.declared.Said.{Said}
 use Rattle.line.specs.declared.Said.the-variants.{Number, NoNumber}
 use Rattle.line.proofs.WordLaws.{WordIs, part-cons, part-length}
 use Rattle.command.specs.Forms.{named, told, Told, ends, behind, letterThen, fieldsTold, fits, listTold, leftTold, wordTold, mayEnd, placeOf, lineTold}
 use Rattle.command.specs.Commands.{table, byTable, remark, commandOf, textOf, verbAt, rowsOf}
-use Rattle.command.specs.Laid.{Lays, Parses}
+use Rattle.command.specs.Laid.{Leaves, Parses}
 use Rattle.command.specs.declared.Verb.{Verb}
 use Rattle.command.specs.declared.Flaw.{Flaw}
 use Rattle.command.specs.declared.Flaw.the-variants.{NoFlaw, NotSuch, Misshapen, LeftOver}
-use Rattle.command.specs.declared.Laid.{Laid}
 use Rattle.command.specs.declared.Place.{Place}
 use Rattle.command.specs.declared.Fault.the-variants as fault
 use Rattle.command.specs.declared.Command.{Command}
@@ -45,15 +44,22 @@ named-on k s w e = rw (w .words, e, add-one k)
 
 -- ---- numbers that are laid
 
-pub lays-ends : (b : List ℕ) (at : ℕ) (f : Flaw) → at ≤ length b → Lays b b at (ends f) (record { behind = at; flaw = f })
-lays-ends b at f h = record { numbers = put-nothing b at h; flaw = refl }
+pub leaves-ends : {A : Type 0} (b : List ℕ) (at : ℕ) (a : A) → at ≤ length b → Leaves b b at (ends a) at a
+leaves-ends b at a h = record { numbers = put-nothing b at h; outcome = refl }
 
-pub lays-behind : {b b₁ b₂ ns : List ℕ} {at k : ℕ} {t : Told Flaw} {r : Laid} → Put b b₁ at ns k → Lays b₁ b₂ k t r → Lays b b₂ at (behind ns t) r
-lays-behind p q = record { numbers = join p (q .numbers); flaw = q .flaw }
+pub leaves-behind : {A : Type 0} {b b₁ b₂ ns : List ℕ} {at k n : ℕ} {t : Told A} {r : A} → Put b b₁ at ns k → Leaves b₁ b₂ k t n r → Leaves b b₂ at (behind ns t) n r
+leaves-behind p q = record { numbers = join p (q .numbers); outcome = q .outcome }
 
 -- one number, and no flaw
-pub lays-one : {b b₁ ns : List ℕ} {at k : ℕ} → Put b b₁ at ns k → k ≤ length b₁ → Lays b b₁ at (behind ns (ends NoFlaw)) (record { behind = k; flaw = NoFlaw })
-lays-one {b₁ = b₁} {k = k} p h = lays-behind p (lays-ends b₁ k NoFlaw h)
+pub leaves-one : {b b₁ ns : List ℕ} {at k : ℕ} → Put b b₁ at ns k → k ≤ length b₁ → Leaves b b₁ at (behind ns (ends NoFlaw)) k NoFlaw
+leaves-one {b₁ = b₁} {k = k} p h = leaves-behind p (leaves-ends b₁ k NoFlaw h)
+
+-- a line from its start
+pub parses : {before after : List ℕ} {t : Told Command} {n : ℕ} {r : Command} → Leaves before after 0 t n r → Parses before after t r
+parses g = record { numbers = g .numbers .laid; command = g .outcome }
+
+pub parses-ends : (b : List ℕ) (r : Command) → Parses b b (ends r) r
+parses-ends b r = parses (leaves-ends b 0 r (omega arith))
 
 -- ---- the fields of a word
 
@@ -148,27 +154,6 @@ place-at line from to h l =
 place-is : {line : List ℕ} {at from to : ℕ} → WordIs line at from to → placeOf (wordAt line from to) ≡ record { from = from; to = to }
 place-is {line} {at} {from} {to} w = place-at line from to (w .some) (w .inside)
 
--- the numbers from a place on, and what the line comes to
-pub record Goes (before after : List ℕ) (at : ℕ) (t : Told Command) (r : Command) : Type 0 where
-  pub behind : ℕ
-  pub numbers : Put before after at (t .numbers) behind
-  pub command : r ≡ t .outcome
-
-pub goes-parses : {before after : List ℕ} {t : Told Command} {r : Command} → Goes before after 0 t r → Parses before after t r
-goes-parses g = record { numbers = g .numbers .laid; command = g .command }
-
-pub goes-ends : (b : List ℕ) (at : ℕ) (r : Command) → at ≤ length b → Goes b b at (ends r) r
-goes-ends b at r h = record { behind = at; numbers = put-nothing b at h; command = refl }
-
-pub goes-behind : {b b₁ b₂ ns : List ℕ} {at k : ℕ} {t : Told Command} {r : Command} → Put b b₁ at ns k → Goes b₁ b₂ k t r → Goes b b₂ at (behind ns t) r
-goes-behind p g = record { behind = g .behind; numbers = join p (g .numbers); command = g .command }
-
-pub goes-word : {b b₁ ns : List ℕ} {at k : ℕ} (r : Command) → Put b b₁ at ns k → Goes b b₁ at (record { numbers = ns; outcome = r }) r
-goes-word {k = k} r p = record { behind = k; numbers = p; command = refl }
-
-pub parses-ends : (b : List ℕ) (r : Command) → Parses b b (ends r) r
-parses-ends b r = goes-parses (goes-ends b 0 r (omega arith))
-
 may-end-past : (form : List ℕ) (number : ℕ) → length (field form) ≤ number → mayEnd form number ≡ true
 unfolding mayEnd
 may-end-past form number h = rw (le-ltb number (length (field form)) h)
@@ -247,7 +232,7 @@ at-inside (x ∷ l) (suc i) d e h = at-inside l i d e (omega arith)
 
 -- the text of the table says its rows
 pub table-is : rowsOf 0 (words (textOf table)) ≡ table
-unfolding run wordsFrom rowsOf
+unfolding before wordsFrom rowsOf
 table-is = refl
 
 -- ---- a line by its first word

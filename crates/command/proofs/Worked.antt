@@ -10,7 +10,7 @@ use Rattle.quantity.specs.declared.BarometerUnit.the-variants.{Millimetres}
 use Rattle.settings.specs.Settings.{nowhere}
 use Rattle.settings.specs.declared.Point.{Point}
 use Rattle.watchfile.specs.declared.Body.the-variants as body
-use Rattle.line.specs.Words.{run, wordsFrom, field, more, same}
+use Rattle.line.specs.Words.{before, wordsFrom, more, same}
 use Rattle.line.specs.Numeral.{everyDigit, whole, signed}
 use Rattle.hex.specs.Hex.{hexValue, isHex}
 use Rattle.command.specs.Forms.{Told, named, told, fieldsTold, fits, listTold, wordTold, mayEnd, lineTold}
@@ -60,7 +60,7 @@ pub the-commands : Right (
     ∷ row (letters "log humidity 00007") (Does Log 2) (4 ∷ 7 ∷ [])
     ∷ row (letters "help") (Does Help 0) []
     ∷ [])
-unfolding run wordsFrom field more same everyDigit whole hexValue isHex named told fieldsTold fits listTold wordTold mayEnd lineTold byTable commandOf
+unfolding before wordsFrom more same everyDigit whole hexValue isHex named told fieldsTold fits listTold wordTold mayEnd lineTold byTable commandOf
 the-commands = refl
 
 -- the numbers of the words before the fault stay
@@ -80,7 +80,7 @@ pub the-faults : Right (
     ∷ row (letters "open inHg x") (Wrong (NotSuch 0x75 (place 5 9))) []
     ∷ row (letters "open mmHg 2147483648") (Wrong (NotSuch 0x7A (place 10 20))) (1 ∷ [])
     ∷ [])
-unfolding run wordsFrom field more same everyDigit whole signed hexValue isHex named told fieldsTold fits listTold wordTold mayEnd lineTold byTable commandOf
+unfolding before wordsFrom more same everyDigit whole signed hexValue isHex named told fieldsTold fits listTold wordTold mayEnd lineTold byTable commandOf
 the-faults = refl
 
 -- the words of lists
@@ -91,7 +91,7 @@ pub the-lists : Right (
     ∷ row (letters "write 9 P:5:9:8") (Wrong (Misshapen (place 8 15))) (9 ∷ 0x50 ∷ 5 ∷ 9 ∷ 0 ∷ 0 ∷ 0 ∷ 0 ∷ [])
     ∷ row (letters "write 9 T:180:-18:256") (Wrong (NotSuch 0x6F (place 8 21))) (9 ∷ 0x54 ∷ 180 ∷ 2147483630 ∷ [])
     ∷ [])
-unfolding run wordsFrom field more same everyDigit whole signed named told fieldsTold fits listTold wordTold mayEnd lineTold byTable commandOf
+unfolding before wordsFrom more same everyDigit whole signed named told fieldsTold fits listTold wordTold mayEnd lineTold byTable commandOf
 the-lists = refl
 
 -- document 01's settings
@@ -105,7 +105,7 @@ pub the-settings : settingsOf ((commandOf (letters "open mmHg 101 -268 24 662 73
       count = 2;
       points = point (pos 7300) (negℤ (pos 4)) ∷ point (pos 7500) (negℤ (pos 8)) ∷ replicate 14 nowhere;
     }
-unfolding run wordsFrom field more same everyDigit whole signed named told fieldsTold fits listTold wordTold mayEnd lineTold byTable commandOf each settingsOf
+unfolding before wordsFrom more same everyDigit whole signed named told fieldsTold fits listTold wordTold mayEnd lineTold byTable commandOf each settingsOf
 the-settings = refl
 
 -- the points behind the 16th are counted only
@@ -120,5 +120,5 @@ pub the-records : recordsOf ((commandOf (letters "write 820 P:5:9857 T:180:-18:1
     ∷ record { minute = 181; body = body.Wind 0 0 }
     ∷ record { minute = 242; body = body.Humidity 19 12345 12326 0 (number (negℤ (pos 399))) }
     ∷ replicate 44 (record { minute = 0; body = body.Pressure 0 }))
-unfolding run wordsFrom field more same everyDigit whole signed named told fieldsTold fits listTold wordTold mayEnd lineTold byTable commandOf each recordsOf
+unfolding before wordsFrom more same everyDigit whole signed named told fieldsTold fits listTold wordTold mayEnd lineTold byTable commandOf each recordsOf
 the-records = refl

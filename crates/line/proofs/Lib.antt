@@ -1,3 +1,4 @@
+pub mod EndLaws
 pub mod WordLaws
 pub mod FieldLaws
 pub mod NumeralLaws

@@ -10,7 +10,7 @@ use lib.Dec.{leb, eqb}
 use lib.ListN.{length, getD, drop, drop-of-length-le}
 use lib.Seq.{drop-cons}
 use borrow.Author.Tests.{leb-true, le-leb, lt-leb}
-use Rattle.number.proofs.Sizes.{impossible}
+use Rattle.number.proofs.Sizes.{impossible, never}
 use Rattle.text.specs.Text.{said}
 use Rattle.line.specs.Numeral.{digit, everyDigit, natural, upTo, minus, whole, less, plus, signed}
 use Rattle.line.specs.declared.Said.{Said}
@@ -70,7 +70,7 @@ up-to-given most n h = rw (le-leb n most h)
 -- ---- the sign
 
 pub minus-some : (s : List ℕ) → minus s ≡ true → 1 ≤ length s
-minus-some [] e = impossible (cc)
+minus-some [] e = never e
 minus-some (b ∷ s) e = omega arith
 
 pub minus-none : (s : List ℕ) → length s ≡ 0 → minus s ≡ false

@@ -31,8 +31,8 @@ stop-of (w ∷ ws) = w .from + length (w .bytes)
 one-next : (line : List ℕ) (at : ℕ) (r r′ : Part) → NextWord line at r → NextWord line at r′ → r ≡ r′
 unfolding start-of stop-of
 one-next line at End End p q = refl
-one-next line at End (Between from to) p q = (let e = sym (p .words) ∙ q .words in impossible (cc))
-one-next line at (Between from to) End p q = (let e = sym (q .words) ∙ p .words in impossible (cc))
+one-next line at End (Between from to) p q = let e = sym (p .words) ∙ q .words in impossible (cc)
+one-next line at (Between from to) End p q = let e = sym (q .words) ∙ p .words in impossible (cc)
 one-next line at (Between from to) (Between from′ to′) p q =
     let e : wordsTold line (Between from to) ≡ wordsTold line (Between from′ to′) = sym (p .words) ∙ q .words in
     let starts : from ≡ from′ = ap start-of e in

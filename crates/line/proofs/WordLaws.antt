@@ -1,24 +1,22 @@
 -- Laws of words from a place on: where one starts and ends is found byte by byte, each byte by what stands there.
 -- Assumes nothing.
 use mathlib.Core.Path.{_≡_, refl, sym, ap, _∙_}
-use mathlib.Core.Bool.{Bool, true, false, _&&_}
+use mathlib.Core.Bool.{Bool, true, false, _&&_, cond}
 use mathlib.Core.List.{List, [], _∷_}
 use Prim.Native.Nat.{ℕ, suc, _+_, _-_, _≤_, _<_}
 use native.Mathlib.Omega.{arith}
 use native.Mathlib.Numerals.{add-one}
-use native.Mathlib.Nat.{le-refl}
+use native.Mathlib.Nat.{le-refl, add-zero}
 use lib.Dec.{eqb}
 use lib.ListN.{length, getD, drop, length-take, length-drop, drop-of-length-le}
-use lib.Seq.{drop-cons, take-all}
-use Rattle.line.specs.Words.{Word, blank, run, wordsFrom, wordNumber, same, part, wordAt, wordsAt}
+use lib.Seq.{drop-cons, drop-drop, take-all}
+use Rattle.line.specs.Words.{Word, blank, before, wordsFrom, wordNumber, same, part, endFrom, wordAt, wordsAt}
 use Rattle.line.specs.Next.{Start, WordEnd, NextWord}
 use Rattle.line.specs.declared.Part.{Part}
 use Rattle.line.specs.declared.Part.the-variants.{Between, End}
+use Rattle.line.proofs.EndLaws.{end-on, end-inside, before-end}
 
 -- ---- parts
-
-pub part-none : (s : List ℕ) (i : ℕ) → part s i i ≡ []
-part-none s i = let e : i - i ≡ 0 = omega arith in rw e
 
 pub part-cons : (s : List ℕ) (i r : ℕ) → i < r → i < length s → part s i r ≡ getD s i 0 ∷ part s (i + 1) r
 part-cons s i r h l =
@@ -52,77 +50,49 @@ start-on line i r h e s = record { behind = omega (arith, s .behind); words = sk
 
 -- ---- where a word ends
 
-words-past : (line : List ℕ) (i : ℕ) (t : Bool) → length line ≤ i → wordsFrom i t (drop i line) ≡ []
+words-past : (line : List ℕ) (i : ℕ) → length line ≤ i → wordsAt line i ≡ []
 unfolding wordsFrom
-words-past line i t h = rw (drop-of-length-le line h)
+words-past line i h = rw (drop-of-length-le line h)
 
-inside-blank : (line : List ℕ) (i : ℕ) → i < length line → blank (getD line i 0) ≡ true → wordsFrom i true (drop i line) ≡ wordsAt line i
-unfolding wordsFrom
-inside-blank line i h e = rw (drop-cons line i 0 h, e)
+-- the words behind a word that reaches up to a place
+words-behind : (k : ℕ) (s : List ℕ) → wordsFrom k true s ≡ wordsFrom (k + length (before blank s)) false (drop (length (before blank s)) s)
+unfolding wordsFrom before
+words-behind k [] = refl
+words-behind k (b ∷ s) = go (words-behind (suc k) s) (blank b) refl
+  where
+    go : wordsFrom (suc k) true s ≡ wordsFrom (suc k + length (before blank s)) false (drop (length (before blank s)) s) → (t : Bool) → blank b ≡ t
+        → cond t (wordsFrom (suc k) false s) (wordsFrom (suc k) true s)
+        ≡ wordsFrom (k + length (cond t [] (b ∷ before blank s))) false (drop (length (cond t [] (b ∷ before blank s))) (b ∷ s))
+    go ih true e = rw (add-zero k, e)
+    go ih false e = ih ∙ ap (λ (n : ℕ). wordsFrom n false (drop (length (before blank s)) s)) (omega arith)
 
-inside-on : (line : List ℕ) (i : ℕ) → i < length line → blank (getD line i 0) ≡ false → wordsFrom i true (drop i line) ≡ wordsFrom (i + 1) true (drop (i + 1) line)
-unfolding wordsFrom
-inside-on line i h e = rw (add-one i, drop-cons line i 0 h, e)
-
-run-blank : (line : List ℕ) (i : ℕ) → i < length line → blank (getD line i 0) ≡ true → run (drop i line) ≡ []
-unfolding run
-run-blank line i h e = rw (drop-cons line i 0 h, e)
-
-run-past : (line : List ℕ) (i : ℕ) → length line ≤ i → run (drop i line) ≡ []
-unfolding run
-run-past line i h = rw (drop-of-length-le line h)
-
-run-on : (line : List ℕ) (i : ℕ) → i < length line → blank (getD line i 0) ≡ false → run (drop i line) ≡ getD line i 0 ∷ run (drop (i + 1) line)
-unfolding run
-run-on line i h e = rw (add-one i, drop-cons line i 0 h, e)
-
-pub end-blank : (line : List ℕ) (i : ℕ) → i < length line → blank (getD line i 0) ≡ true → WordEnd line i i
-end-blank line i h e =
-    record {
-      behind = le-refl i;
-      inside = λ l. l;
-      bytes = run-blank line i h e ∙ sym (part-none line i);
-      words = inside-blank line i h e;
-    }
-
-pub end-past : (line : List ℕ) (i : ℕ) → length line ≤ i → WordEnd line i i
-end-past line i h =
-    record {
-      behind = le-refl i;
-      inside = λ l. l;
-      bytes = run-past line i h ∙ sym (part-none line i);
-      words = words-past line i true h ∙ sym (words-past line i false h);
-    }
-
-pub end-on : (line : List ℕ) (i r : ℕ) → i < length line → blank (getD line i 0) ≡ false → WordEnd line (i + 1) r → WordEnd line i r
-end-on line i r h e s =
-    record {
-      behind = omega (arith, s .behind);
-      inside = λ l. s .inside (omega arith);
-      bytes = run-on line i h e ∙ ap (λ (x : List ℕ). getD line i 0 ∷ x) (s .bytes) ∙ sym (part-cons line i r (omega (arith, s .behind)) h);
-      words = inside-on line i h e ∙ s .words;
-    }
+words-end : (line : List ℕ) (i : ℕ) → wordsFrom i true (drop i line) ≡ wordsAt line (endFrom blank line i)
+unfolding endFrom
+words-end line i =
+    words-behind i (drop i line)
+    ∙ ap (wordsFrom (i + length (before blank (drop i line))) false) (drop-drop (length (before blank (drop i line))) i line)
 
 -- ---- the next word
 
 begins : (line : List ℕ) (i : ℕ) → i < length line → blank (getD line i 0) ≡ false
-    → wordsAt line i ≡ record { from = i; bytes = run (drop i line) } ∷ wordsFrom (i + 1) true (drop (i + 1) line)
+    → wordsAt line i ≡ record { from = i; bytes = before blank (drop i line) } ∷ wordsFrom (i + 1) true (drop (i + 1) line)
 unfolding wordsFrom
 begins line i h e = rw (add-one i, drop-cons line i 0 h, e)
 
 pub word-found : (line : List ℕ) (at from to : ℕ) → from < length line → Start line at from → WordEnd line (from + 1) to → NextWord line at (Between from to)
 word-found line at from to h s w =
-    let e = end-on line from to h (s .byte h) w in
+    let ends : endFrom blank line from ≡ to = end-on blank line from h (s .byte h) ∙ sym w in
+    let inside = end-inside blank line (from + 1) (omega arith) in
     record {
       words =
           s .words
           ∙ begins line from h (s .byte h)
-          ∙ rw (e .bytes, w .words);
-      within = (s .behind, omega (arith, w .behind), w .inside (omega arith));
+          ∙ rw (before-end blank line from, ends, words-end line (from + 1), ← w);
+      within = (s .behind, omega arith, omega arith);
     }
 
 pub word-none : (line : List ℕ) (at from : ℕ) → length line ≤ from → Start line at from → NextWord line at End
-word-none line at from h s = record { words = s .words ∙ words-past line from false h; within = tt }
+word-none line at from h s = record { words = s .words ∙ words-past line from h; within = tt }
 
 -- what the next word says of the line
 pub record WordIs (line : List ℕ) (at from to : ℕ) : Type 0 where

@@ -1,10 +1,10 @@
 -- The next word from a place on, and where a word starts and ends.
 use mathlib.Core.Path.{_≡_}
-use mathlib.Core.Bool.{true, false}
+use mathlib.Core.Bool.{false}
 use mathlib.Core.List.{List, [], _∷_}
 use Prim.Native.Nat.{ℕ, _≤_, _<_}
-use lib.ListN.{length, getD, drop}
-use Rattle.line.specs.Words.{Word, blank, run, wordsFrom, part, wordAt, wordsAt}
+use lib.ListN.{length, getD}
+use Rattle.line.specs.Words.{Word, blank, endFrom, wordAt, wordsAt}
 use Rattle.line.specs.declared.Part.{Part}
 use Rattle.line.specs.declared.Part.the-variants.{Between, End}
 
@@ -15,11 +15,8 @@ pub record Start (line : List ℕ) (at r : ℕ) : Type 0 where
   pub byte : r < length line → blank (getD line r 0) ≡ false
 
 -- Where a word ends that reaches up to a place.
-pub record WordEnd (line : List ℕ) (at r : ℕ) : Type 0 where
-  pub behind : at ≤ r
-  pub inside : at ≤ length line → r ≤ length line
-  pub bytes : run (drop at line) ≡ part line at r
-  pub words : wordsFrom at true (drop at line) ≡ wordsAt line r
+abbrev pub WordEnd : List ℕ → ℕ → ℕ → Type 0
+WordEnd line at r = r ≡ endFrom blank line at
 
 -- The next word lies within the line, and has a byte.
 abbrev pub Within : ℕ → List ℕ → Part → Type 0

@@ -14,10 +14,10 @@ pub record Word : Type 0 where
   pub from : ℕ
   pub bytes : List ℕ
 
--- What stands before the first blank.
-unfoldable pub run : List ℕ → List ℕ
-run [] = []
-run (b ∷ s) = cond (blank b) [] (b ∷ run s)
+-- What stands before the first byte that parts: a blank parts words, a colon fields.
+unfoldable pub before : (ℕ → Bool) → List ℕ → List ℕ
+before parts [] = []
+before parts (b ∷ s) = cond (parts b) [] (b ∷ before parts s)
 
 -- Words are the longest runs of other bytes: one begins at each byte that is no blank and does not stand behind such a byte.
 -- The words of what stands from place k on; `inside` tells whether a word reaches up to k.
@@ -26,7 +26,7 @@ wordsFrom k inside [] = []
 wordsFrom k inside (b ∷ s) =
     cond (blank b) (wordsFrom (suc k) false s)
     (cond inside (wordsFrom (suc k) true s)
-    (record { from = k; bytes = run (b ∷ s) } ∷ wordsFrom (suc k) true s))
+    (record { from = k; bytes = before blank (b ∷ s) } ∷ wordsFrom (suc k) true s))
 
 abbrev pub words : List ℕ → List Word
 words line = wordsFrom 0 false line
@@ -38,13 +38,15 @@ wordNumber zero (w ∷ ws) = w .bytes
 wordNumber (suc n) (w ∷ ws) = wordNumber n ws
 
 -- The fields of a word are parted by colons (3A): what stands before the first one, and a field behind each.
-unfoldable pub field : List ℕ → List ℕ
-field [] = []
-field (b ∷ s) = cond (eqb b 0x3A) [] (b ∷ field s)
+abbrev pub colon : ℕ → Bool
+colon b = eqb b 0x3A
+
+abbrev pub field : List ℕ → List ℕ
+field s = before colon s
 
 unfoldable pub more : List ℕ → List (List ℕ)
 more [] = []
-more (b ∷ s) = cond (eqb b 0x3A) (field s ∷ more s) (more s)
+more (b ∷ s) = cond (colon b) (field s ∷ more s) (more s)
 
 abbrev pub fields : List ℕ → List (List ℕ)
 fields word = field word ∷ more word
@@ -71,6 +73,9 @@ wordsAt line at = wordsFrom at false (drop at line)
 unfoldable pub fieldsAt : List ℕ → ℕ → List (List ℕ)
 fieldsAt word at = cond (leb at (length word)) (fields (drop at word)) []
 
--- Where the field ends that starts at a place.
-unfoldable pub fieldEnd : List ℕ → ℕ → ℕ
-fieldEnd word at = at + length (field (drop at word))
+-- Where a word or a field ends that starts at a place.
+unfoldable pub endFrom : (ℕ → Bool) → List ℕ → ℕ → ℕ
+endFrom parts s at = at + length (before parts (drop at s))
+
+abbrev pub fieldEnd : List ℕ → ℕ → ℕ
+fieldEnd word at = endFrom colon word at

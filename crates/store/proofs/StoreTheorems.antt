@@ -9,7 +9,7 @@ use lib.Dec.{eqb, leb}
 use lib.ListN.{take, length}
 use borrow.Author.Tests.{leb-true, lt-ltb, eq-eqb, ne-eqb}
 use Rattle.number.specs.Refusal.{Answer, refused, given}
-use Rattle.number.proofs.Sizes.{never, and-true}
+use Rattle.number.proofs.Sizes.{never, either-way, and-true}
 use Rattle.quantity.specs.Limits.{minutesBetween}
 use Rattle.quantity.specs.declared.BarometerUnit.{BarometerUnit}
 use Rattle.wire.specs.Bytes.{channel}
@@ -103,12 +103,11 @@ abbrev Missed : List Entry → ℕ → Type 0
 Missed H j = (remembered H j ≡ absent) × (j < nextOf H)
 
 missed-step : (e : Entry) (H : List Entry) (j : ℕ) → nextOf H ≤ e .minute → Missed H j → Missed (e ∷ H) j
-missed-step e H j n w =
-    (remembered-step e H j n ∙ rw (ne-eqb j (e .minute) (λ q. omega arith), w .0) (either (leb (suc (e .minute)) (j + MINUTES))), omega arith)
-  where
-    either : (b : Bool) → cond b absent absent ≡ absent
-    either true = refl
-    either false = refl
+missed-step e H j n w = (
+  remembered-step e H j n
+      ∙ rw (ne-eqb j (e .minute) (λ q. omega arith), w .0) (either-way (λ r. r ≡ absent) (leb (suc (e .minute)) (j + MINUTES)) absent absent refl refl),
+  omega arith,
+)
 
 missed-grown : (c : ℕ) (H : List Entry) (a : Answer ℕ Entry) (j : ℕ) → Missed H j → Missed (grown c H a) j
 missed-grown c H (refused n) j w = w
@@ -156,14 +155,10 @@ late u c (m ∷ M) j h = grown-late c (history u c M) (received u m) (late u c M
 pub jumped-over : (u : BarometerUnit) (c : ℕ) (M : List (List ℕ)) (e : Entry) (j : ℕ) →
     nextOf (history u c M) ≤ j → j < e .minute → remembered (e ∷ history u c M) j ≡ absent
 unfolding remembered
-jumped-over u c M e j l h = go (leb (e .minute + 1) (j + MINUTES))
+jumped-over u c M e j l h = either-way (λ r. r ≡ absent) (leb (e .minute + 1) (j + MINUTES)) (lookup (e ∷ history u c M) j) absent gone refl
   where
     gone : lookup (e ∷ history u c M) j ≡ absent
     gone = rw (ne-eqb (e .minute) j (λ q. omega arith)) (late u c M j l)
-
-    go : (b : Bool) → cond b (lookup (e ∷ history u c M) j) absent ≡ absent
-    go true = gone
-    go false = refl
 
 -- ---- "Each channel keeps its newest accepted minute and the 255 minutes before it."
 

@@ -4,8 +4,8 @@ use mathlib.Core.List.{List}
 use Prim.Native.Nat.{ℕ}
 use native.Mathlib.Omega.{arith}
 use lib.ListN.{take}
-use Rattle.line.specs.Words.{field, same, part}
-use Rattle.line.proofs.FieldLaws.{end-inside, end-first, field-first}
+use Rattle.line.specs.Words.{colon, field, same, part}
+use Rattle.line.proofs.EndLaws.{end-inside, before-end}
 use Rattle.command.proofs.FormLaws.{fits-none, fits-low, fits-high, fits-capital}
 use borrow.Author.Needs.{needs}
 use Rattle.command.proofs.fits.Statement.{statement}
@@ -37,7 +37,7 @@ part-same-start c = search needs
 
 part-same-end : tie.Need-part-same-end
 part-same-end c =
-    let z = end-inside (c .before .before .before .before .before .before .before .before .args .word .now) 0 (omega arith) in
+    let z = end-inside colon (c .before .before .before .before .before .before .before .before .args .word .now) 0 (omega arith) in
     omega (arith, c .field-end .ensures)
 
 sub-same-2 : tie.Need-sub-same-2
@@ -56,7 +56,7 @@ returns-4 : tie.Need-returns-4
 returns-4 c =
     let form = c .before .before .before .before .before .before .before .before .before .before .before .args .form .now in
     let word = c .before .before .before .before .before .before .before .before .before .before .before .args .word .now in
-    let e : part word 0 (c .before .before .before .field-end .result) ≡ field word = ap (λ (n : ℕ). part word 0 n) (c .before .before .before .field-end .ensures ∙ end-first word) ∙ sym (field-first word) in
+    let e : part word 0 (c .before .before .before .field-end .result) ≡ field word = ap (λ (n : ℕ). part word 0 n) (c .before .before .before .field-end .ensures) ∙ sym (before-end colon word 0) in
     c .same .ensures ∙ ap (λ (x : List ℕ). same x (take 1 form)) e ∙ sym (fits-capital form word (omega arith) (omega arith))
 
 pub fits-spec : {M : Type 1} → statement M

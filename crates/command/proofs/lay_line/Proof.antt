@@ -6,14 +6,16 @@ use native.Mathlib.Omega.{arith}
 use lib.ListN.{length}
 use borrow.Author.Tests.{eq-eqb, ne-eqb}
 use Rattle.text.proofs.PutLaws.{put-inside}
-use Rattle.line.specs.Words.{field, wordsAt}
+use Rattle.line.specs.Words.{colon, field, wordsAt}
 use Rattle.line.proofs.WordLaws.{word-is, word-end-is}
-use Rattle.line.proofs.FieldLaws.{end-first, field-fits}
+use Rattle.line.proofs.EndLaws.{before-short}
+use Rattle.line.proofs.FieldLaws.{end-first}
 use Rattle.command.specs.Forms.{lineTold}
+use Rattle.command.specs.Laid.{Leaves}
 use Rattle.command.specs.declared.Command.{Command}
 use Rattle.command.specs.declared.Command.the-variants.{Does, Wrong}
-use Rattle.command.specs.declared.Fault.the-variants.{WordCount, NotSuch, Misshapen}
-use Rattle.command.proofs.FormLaws.{Goes, goes-parses, goes-ends, goes-behind, goes-word, line-done, line-no-bytes, line-short, word-then, word-not-such, word-misshapen, word-left-over}
+use Rattle.command.specs.declared.Fault.the-variants.{WordCount}
+use Rattle.command.proofs.FormLaws.{leaves-ends, leaves-behind, parses, line-done, line-no-bytes, line-short, word-then, word-not-such, word-misshapen, word-left-over}
 use borrow.Author.Needs.{needs}
 use Rattle.command.proofs.lay_line.Statement.{statement}
 use Rattle.command.proofs.lay_line.Tie as tie
@@ -21,7 +23,7 @@ use Rattle.command.proofs.lay_line.Tie as tie
 abbrev Inv-loop : tie.InvT-loop
 Inv-loop verb form line at numbers₀ fixed here₀ count₀ place₀ numbers here count place =
     (fixed ≡ length (field form)) × (count ≤ here) × (place ≤ length numbers) × (length numbers ≡ length numbers₀)
-    × ((after : List ℕ) (r : Command) → Goes numbers after place (lineTold verb form count (wordsAt line here)) r → Goes numbers₀ after 0 (lineTold verb form 0 (wordsAt line at)) r)
+    × ((after : List ℕ) (behind : ℕ) (r : Command) → Leaves numbers after place (lineTold verb form count (wordsAt line here)) behind r → Leaves numbers₀ after 0 (lineTold verb form 0 (wordsAt line at)) behind r)
 
 abbrev μ-loop : tie.MeasureT-loop
 μ-loop verb form line at numbers₀ fixed here₀ count₀ place₀ numbers here count place = length line - here
@@ -30,7 +32,7 @@ field-end-requires : tie.Need-field-end-requires Inv-loop μ-loop
 field-end-requires c κs = search needs
 
 loop-holds : tie.Need-loop-holds Inv-loop μ-loop
-loop-holds c = (c .field-end .ensures ∙ end-first (c .before .before .before .before .args .form .now), search needs, search needs, refl, λ after r g. g)
+loop-holds c = (c .field-end .ensures ∙ end-first (c .before .before .before .before .args .form .now), search needs, search needs, refl, λ after n r g. g)
 
 next-word-requires : tie.Need-next-word-requires Inv-loop μ-loop
 next-word-requires c κs = search needs
@@ -39,7 +41,7 @@ enum-told : tie.Need-enum-told Inv-loop μ-loop
 enum-told c = search needs
 
 shared-slice-read-if2 : tie.Need-shared-slice-read-if2 Inv-loop μ-loop
-shared-slice-read-if2 c = omega (arith, c .before .before .before .before .before .loop .inv .0, field-fits (c .before .before .before .before .before .before .before .before .before .before .args .form .now))
+shared-slice-read-if2 c = omega (arith, c .before .before .before .before .before .loop .inv .0, before-short colon (c .before .before .before .before .before .before .before .before .before .before .args .form .now))
 
 same-length : tie.Need-same-length Inv-loop μ-loop
 same-length c = search needs
@@ -49,7 +51,7 @@ returns c =
     let q = c .before .before .before .before .before .before .before .before .before .before .before .args in
     let l = c .before .before .before .before .before .before .loop in
     let e = line-short (q .verb) (q .form .now) (l .count) (word-end-is (c .before .before .before .before .before .next-word .ensures) (c .before .before .before .enum-told .given .1)) (omega (arith, l .inv .0)) (ne-eqb _ _ (c .if2 .taken)) in
-    goes-parses (l .inv .4 _ _ (rw e (goes-ends (l .numbers) (l .place) (Wrong WordCount) (l .inv .2))))
+    parses (l .inv .4 _ (l .place) _ (rw e (leaves-ends (l .numbers) (l .place) (Wrong WordCount) (l .inv .2))))
 
 same-length-2 : tie.Need-same-length-2 Inv-loop μ-loop
 same-length-2 c = search needs
@@ -59,7 +61,7 @@ returns-2 c =
     let q = c .before .before .before .before .before .before .before .before .before .before .before .args in
     let l = c .before .before .before .before .before .before .loop in
     let e = line-no-bytes (q .verb) (q .form .now) (l .count) (word-end-is (c .before .before .before .before .before .next-word .ensures) (c .before .before .before .enum-told .given .1)) (omega (arith, l .inv .0)) (eq-eqb _ _ (c .if2 .left)) in
-    goes-parses (l .inv .4 _ _ (rw e (goes-ends (l .numbers) (l .place) (Does (q .verb) (l .count)) (l .inv .2))))
+    parses (l .inv .4 _ (l .place) _ (rw e (leaves-ends (l .numbers) (l .place) (Does (q .verb) (l .count)) (l .inv .2))))
 
 same-length-3 : tie.Need-same-length-3 Inv-loop μ-loop
 same-length-3 c = search needs
@@ -69,7 +71,7 @@ returns-3 c =
     let q = c .before .before .before .before .before .before .before .before .before .args in
     let l = c .before .before .before .before .loop in
     let e = line-done (q .verb) (q .form .now) (l .count) (word-end-is (c .before .before .before .next-word .ensures) (c .before .enum-told .given .1)) (omega (arith, l .inv .0)) in
-    goes-parses (l .inv .4 _ _ (rw e (goes-ends (l .numbers) (l .place) (Does (q .verb) (l .count)) (l .inv .2))))
+    parses (l .inv .4 _ (l .place) _ (rw e (leaves-ends (l .numbers) (l .place) (Does (q .verb) (l .count)) (l .inv .2))))
 
 enum-known-from : tie.Need-enum-known-from Inv-loop μ-loop
 enum-known-from c = search needs
@@ -112,8 +114,8 @@ loop-again c =
     let w = word-is (c .before .before .before .before .before .before .before .before .before .before .next-word .ensures) (c .before .before .before .before .before .before .before .before .from .given .1) in
     let p = c .before .before .before .before .lay-word .ensures in
     let z = put-inside (p .numbers) in
-    let e = word-then (q .verb) (q .form .now) (l .count) w (sym (p .flaw) ∙ c .enum-told2 .given .1) in
-    (l .inv .0, omega arith, omega arith, z .0 ∙ l .inv .3, λ after r g. l .inv .4 after r (rw e (goes-behind (p .numbers) g)))
+    let e = word-then (q .verb) (q .form .now) (l .count) w (sym (p .outcome) ∙ c .enum-told2 .given .1) in
+    (l .inv .0, omega arith, omega arith, z .0 ∙ l .inv .3, λ after n r g. l .inv .4 after n r (rw e (leaves-behind (p .numbers) g)))
 
 enum-known-flaw : tie.Need-enum-known-flaw Inv-loop μ-loop
 enum-known-flaw c = search needs
@@ -127,8 +129,8 @@ returns-4 c =
     let l = c .before .before .before .before .before .before .before .before .before .before .before .before .loop in
     let w = word-is (c .before .before .before .before .before .before .before .before .before .before .before .next-word .ensures) (c .before .before .before .before .before .before .before .before .before .from .given .1) in
     let p = c .before .before .before .before .before .lay-word .ensures in
-    let e = word-not-such (q .verb) (q .form .now) (l .count) w (c .before .flaw .given .0 .0) (sym (p .flaw) ∙ c .before .flaw .given .1) in
-    goes-parses (l .inv .4 _ _ (rw e (goes-word (Wrong (NotSuch (c .before .flaw .given .0 .0) (record { from = c .before .before .before .before .before .before .before .before .before .from .given .0 .0; to = c .before .before .before .before .before .before .before .before .before .from .given .0 .1 .0 }))) (p .numbers))))
+    let e = word-not-such (q .verb) (q .form .now) (l .count) w (c .before .flaw .given .0 .0) (sym (p .outcome) ∙ c .before .flaw .given .1) in
+    parses (l .inv .4 _ (c .before .before .before .before .before .lay-word .result .behind) _ (rw e (record { numbers = p .numbers; outcome = refl })))
 
 enum-told-3 : tie.Need-enum-told-3 Inv-loop μ-loop
 enum-told-3 c = search needs
@@ -142,8 +144,8 @@ returns-5 c =
     let l = c .before .before .before .before .before .before .before .before .before .before .before .loop in
     let w = word-is (c .before .before .before .before .before .before .before .before .before .before .next-word .ensures) (c .before .before .before .before .before .before .before .before .from .given .1) in
     let p = c .before .before .before .before .lay-word .ensures in
-    let e = word-misshapen (q .verb) (q .form .now) (l .count) w (sym (p .flaw) ∙ c .enum-told3 .given .1) in
-    goes-parses (l .inv .4 _ _ (rw e (goes-word (Wrong (Misshapen (record { from = c .before .before .before .before .before .before .before .before .from .given .0 .0; to = c .before .before .before .before .before .before .before .before .from .given .0 .1 .0 }))) (p .numbers))))
+    let e = word-misshapen (q .verb) (q .form .now) (l .count) w (sym (p .outcome) ∙ c .enum-told3 .given .1) in
+    parses (l .inv .4 _ (c .before .before .before .before .lay-word .result .behind) _ (rw e (record { numbers = p .numbers; outcome = refl })))
 
 enum-told-4 : tie.Need-enum-told-4 Inv-loop μ-loop
 enum-told-4 c = search needs
@@ -157,8 +159,8 @@ returns-6 c =
     let l = c .before .before .before .before .before .before .before .before .before .before .before .loop in
     let w = word-is (c .before .before .before .before .before .before .before .before .before .before .next-word .ensures) (c .before .before .before .before .before .before .before .before .from .given .1) in
     let p = c .before .before .before .before .lay-word .ensures in
-    let e = word-left-over (q .verb) (q .form .now) (l .count) w (sym (p .flaw) ∙ c .enum-told4 .given .1) in
-    goes-parses (l .inv .4 _ _ (rw e (goes-word (Wrong WordCount) (p .numbers))))
+    let e = word-left-over (q .verb) (q .form .now) (l .count) w (sym (p .outcome) ∙ c .enum-told4 .given .1) in
+    parses (l .inv .4 _ (c .before .before .before .before .lay-word .result .behind) _ (rw e (record { numbers = p .numbers; outcome = refl })))
 
 pub lay-line-spec : {M : Type 1} → statement M
 lay-line-spec =

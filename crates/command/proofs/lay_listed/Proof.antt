@@ -4,11 +4,12 @@ use mathlib.Core.List.{_∷_}
 use Prim.Native.Nat.{_+_, _-_}
 use native.Mathlib.Omega.{arith}
 use lib.ListN.{length}
-use Rattle.line.specs.Words.{fieldsAt, part}
-use Rattle.line.proofs.FieldLaws.{end-inside, fields-here, fields-past}
+use Rattle.line.specs.Words.{colon, fieldsAt, part}
+use Rattle.line.proofs.EndLaws.{end-inside}
+use Rattle.line.proofs.FieldLaws.{fields-here, fields-past}
 use Rattle.command.specs.Forms.{listTold}
 use Rattle.command.specs.declared.Flaw.the-variants.{Misshapen}
-use Rattle.command.proofs.FormLaws.{lays-ends, list-none, list-here, list-on}
+use Rattle.command.proofs.FormLaws.{leaves-ends, list-none, list-here, list-on}
 use borrow.Author.Needs.{needs}
 use Rattle.command.proofs.lay_listed.Statement.{statement}
 use Rattle.command.proofs.lay_listed.Tie as tie
@@ -27,17 +28,17 @@ field-end-requires c κs = search needs
 
 sub-form : tie.Need-sub-form Inv-loop μ-loop
 sub-form c =
-    let z = end-inside (c .before .before .before .before .before .before .args .forms .now) (c .before .before .loop .from) (c .before .loop-test .taken) in
+    let z = end-inside colon (c .before .before .before .before .before .before .args .forms .now) (c .before .before .loop .from) (c .before .loop-test .taken) in
     omega (arith, c .field-end .ensures)
 
 part-form-start : tie.Need-part-form-start Inv-loop μ-loop
 part-form-start c =
-    let z = end-inside (c .before .before .before .before .before .before .args .forms .now) (c .before .before .loop .from) (c .before .loop-test .taken) in
+    let z = end-inside colon (c .before .before .before .before .before .before .args .forms .now) (c .before .before .loop .from) (c .before .loop-test .taken) in
     omega (arith, c .field-end .ensures)
 
 part-form-end : tie.Need-part-form-end Inv-loop μ-loop
 part-form-end c =
-    let z = end-inside (c .before .before .before .before .before .before .args .forms .now) (c .before .before .loop .from) (c .before .loop-test .taken) in
+    let z = end-inside colon (c .before .before .before .before .before .before .args .forms .now) (c .before .before .loop .from) (c .before .loop-test .taken) in
     omega (arith, c .field-end .ensures)
 
 fits-requires : tie.Need-fits-requires Inv-loop μ-loop
@@ -59,12 +60,12 @@ returns c =
 
 add-from : tie.Need-add-from Inv-loop μ-loop
 add-from c =
-    let z = end-inside (c .before .before .before .before .before .before .before .before .before .args .forms .now) (c .before .before .before .before .before .loop .from) (c .before .before .before .before .loop-test .taken) in
+    let z = end-inside colon (c .before .before .before .before .before .before .before .before .before .args .forms .now) (c .before .before .before .before .before .loop .from) (c .before .before .before .before .loop-test .taken) in
     omega (arith, c .before .before .before .field-end .ensures)
 
 loop-less : tie.Need-loop-less Inv-loop μ-loop
 loop-less c =
-    let z = end-inside (c .before .before .before .before .before .before .before .before .before .args .forms .now) (c .before .before .before .before .before .loop .from) (c .before .before .before .before .loop-test .taken) in
+    let z = end-inside colon (c .before .before .before .before .before .before .before .before .before .args .forms .now) (c .before .before .before .before .before .loop .from) (c .before .before .before .before .loop-test .taken) in
     omega (arith, c .before .before .before .field-end .ensures)
 
 loop-again : tie.Need-loop-again Inv-loop μ-loop
@@ -82,7 +83,7 @@ returns-2 : tie.Need-returns-2 Inv-loop μ-loop
 returns-2 c =
     let q = c .before .before .before .before .before .args in
     let l = c .before .loop in
-    rw (← l .inv .1, list-none (q .word .now) (fields-past (q .forms .now) (l .from) (c .loop-test .left)), ← l .inv .0) (lays-ends (l .numbers) (q .place) Misshapen (omega (arith, c .before .before .before .before .before .pre, ap length (l .inv .0))))
+    rw (← l .inv .1, list-none (q .word .now) (fields-past (q .forms .now) (l .from) (c .loop-test .left)), ← l .inv .0) (leaves-ends (l .numbers) (q .place) Misshapen (omega (arith, c .before .before .before .before .before .pre, ap length (l .inv .0))))
 
 pub lay-listed-spec : {M : Type 1} → statement M
 lay-listed-spec =
