@@ -134,7 +134,6 @@ use Rattle.text.proofs.put_signed.Reads as text-put-signed
 use Rattle.listing.proofs.SingleAnswers as listing
 use Rattle.listing.proofs.list.Reads as listing-list
 use Rattle.desk.proofs.SingleAnswers as desk
-use Rattle.desk.proofs.number_of.Reads as desk-number-of
 use Rattle.desk.proofs.hear_all.Reads as desk-hear-all
 use Rattle.desk.proofs.pressure_record.Reads as desk-pressure-record
 use Rattle.desk.proofs.tendency_record.Reads as desk-tendency-record
@@ -172,8 +171,6 @@ use Rattle.notice.proofs.put_fault.Reads as notice-put-fault
 use Rattle.notice.proofs.put_counts.Reads as notice-put-counts
 use Rattle.told.proofs.SingleAnswers as told
 use Rattle.told.proofs.settings_of.Reads as told-settings-of
-use Rattle.told.proofs.opening_number.Reads as told-opening-number
-use Rattle.told.proofs.hearing_number.Reads as told-hearing-number
 use Rattle.told.proofs.pressure_told.Reads as told-pressure-told
 use Rattle.told.proofs.tendency_told.Reads as told-tendency-told
 use Rattle.told.proofs.wind_told.Reads as told-wind-told
@@ -343,7 +340,6 @@ pub record OneAnswerEach : Type 0 where
   pub listing-list-single : Single listing-list.Post
   pub listing-list-left : SingleLeft listing-list.Post (λ κs s. s .1 .0 .now)
   -- desk
-  pub desk-number-of-single : Single desk-number-of.Post
   pub desk-hear-all-single : Single desk-hear-all.Post
   pub desk-hear-all-left : SingleLeft desk-hear-all.Post (λ κs s. s .0 .now)
   pub desk-pressure-record-single : Single desk-pressure-record.Post
@@ -399,8 +395,6 @@ pub record OneAnswerEach : Type 0 where
   pub notice-put-counts-left : SingleLeft notice-put-counts.Post (λ κs s. s .0 .now)
   -- told
   pub told-settings-of-single : Single told-settings-of.Post
-  pub told-opening-number-single : Single told-opening-number.Post
-  pub told-hearing-number-single : Single told-hearing-number.Post
   pub told-pressure-told-single : Single told-pressure-told.Post
   pub told-tendency-told-single : Single told-tendency-told.Post
   pub told-wind-told-single : Single told-wind-told.Post
@@ -555,7 +549,6 @@ one-answer-each =
       text-put-signed-left = text.single-put-signed-text;
       listing-list-single = listing.single-list;
       listing-list-left = listing.single-list-text;
-      desk-number-of-single = desk.single-number-of;
       desk-hear-all-single = desk.single-hear-all;
       desk-hear-all-left = desk.single-hear-all-left;
       desk-pressure-record-single = desk.single-pressure-record;
@@ -604,8 +597,6 @@ one-answer-each =
       notice-put-counts-single = notice.single-put-counts;
       notice-put-counts-left = notice.single-put-counts-text;
       told-settings-of-single = told.single-settings-of;
-      told-opening-number-single = told.single-opening-number;
-      told-hearing-number-single = told.single-hearing-number;
       told-pressure-told-single = told.single-pressure-told;
       told-tendency-told-single = told.single-tendency-told;
       told-wind-told-single = told.single-wind-told;
