@@ -7,6 +7,7 @@ use lib.ListN.{length}
 use Rattle.number.specs.Refusal.{given}
 use Rattle.quantity.specs.declared.BarometerUnit.{BarometerUnit}
 use Rattle.quantity.specs.declared.BarometerUnit.the-variants.{Millimetres}
+use Rattle.message.specs.Receive.{Figure, mmHg}
 use Rattle.settings.specs.Settings.{pointAt}
 use Rattle.settings.specs.declared.Point.{Point}
 use Rattle.pressure.specs.Pressure.{seaLevelAnswer}
@@ -18,8 +19,8 @@ use Rattle.humidity.specs.declared.Moisture.the-variants.{Given}
 
 -- A row: what is given, and the figures that it comes to.
 pub data Marked : Type 0 where
-  -- unit; height, difference, coefficient; certificate; reading, wheelhouse temperature: sea level pressure
-  pressure : BarometerUnit → ℤ → ℤ → ℤ → List Point → ℤ → ℤ → ℤ → Marked
+  -- unit; height, difference, coefficient; certificate; reading in its unit, wheelhouse temperature: sea level pressure
+  pressure : BarometerUnit → ℤ → ℤ → ℤ → List Point → Figure → ℤ → ℤ → Marked
   -- course, ship's speed, apparent speed, apparent direction: speed, direction
   wind : ℕ → ℕ → ℕ → ℕ → ℕ → ℕ → Marked
   -- dry bulb, wet bulb, station pressure, A: e, saturation, deficit, relative humidity, dew point
@@ -59,8 +60,8 @@ certificate = point (pos 7300) (negℤ (pos 4)) ∷ point (pos 7500) (negℤ (po
 unfoldable pub marked : List Marked
 marked =
     -- "coefficient 24, H 10.1, reading 741.9, 12.4 °C: 990.0. Difference -26.8: 986.4."
-    pressure Millimetres (pos 101) (pos 0) (pos 24) certificate (pos 7419) (pos 124) (pos 9900)
-    ∷ pressure Millimetres (pos 101) (negℤ (pos 268)) (pos 24) certificate (pos 7419) (pos 124) (pos 9864)
+    pressure Millimetres (pos 101) (pos 0) (pos 24) certificate (mmHg (pos 7419)) (pos 124) (pos 9900)
+    ∷ pressure Millimetres (pos 101) (negℤ (pos 268)) (pos 24) certificate (mmHg (pos 7419)) (pos 124) (pos 9864)
     -- "Course 260, 12.5 kn, apparent 40° at 2.5 m/s: 4.8 m/s from 60°"
     ∷ wind 260 125 25 40 48 60
     -- "Course 30, 10.0 kn, apparent 0: 5.1 from 210. Course 90, 10.0 kn, 0° at 5.0: 0.1 from 270."

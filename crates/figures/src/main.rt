@@ -5,6 +5,7 @@ use humidity::Moisture;
 use libc::STDOUT_FILENO;
 use number::Kept;
 use number::Number;
+use pressure::BarometerReading;
 use pressure::WorkedPressure;
 use quantity::BarometerUnit;
 use quantity::BulbTemperature;
@@ -12,6 +13,7 @@ use quantity::Degrees;
 use quantity::Hectopascals;
 use quantity::Knots;
 use quantity::MetresPerSecond;
+use quantity::Millimetres;
 use quantity::WheelhouseTemperature;
 use settings::Correction;
 use settings::Height;
@@ -21,6 +23,7 @@ use settings::SeaLevelDifference;
 use settings::Settings;
 use settings::TemperatureCoefficient;
 use station::QuestionRefusal;
+use station::Refused;
 use station::TendencyAnswer;
 use wind::TrueWind;
 
@@ -69,7 +72,7 @@ fn pressure_at_sea_level(difference: i32) {
     store::open(&mut store, settings(difference));
     match pressure::sea_level_pressure(
         &store,
-        Number { v: 7419 },
+        BarometerReading::Millimetres(Millimetres(Kept { v: 7419 })),
         WheelhouseTemperature(Kept { v: 124 }),
     ) {
         WorkedPressure::Given(p) => {
@@ -134,21 +137,18 @@ fn hear_both(store: &mut Store, low: u8, high: u8) {
 }
 
 fn say_refusal(r: QuestionRefusal) {
-    match r {
-        QuestionRefusal::MinuteTooLate => say(b"refused 5"),
-        QuestionRefusal::OutsideLimits => say(b"refused 7"),
-        QuestionRefusal::MissingReading(c, m) => {
-            say(b"refused 11");
+    say(b"refused");
+    match station::number(r) {
+        Refused::Plain(n) => say_natural(n),
+        Refused::OfMinute(n, m) => {
+            say_natural(n);
+            say_natural(m.0);
+        }
+        Refused::OfReading(n, c, m) => {
+            say_natural(n);
             say_natural(c);
             say_natural(m.0);
         }
-        QuestionRefusal::OutsideCertificate(m) => {
-            say(b"refused 12");
-            say_natural(m.0);
-        }
-        QuestionRefusal::WetAboveDry => say(b"refused 13"),
-        QuestionRefusal::NoThreeHours => say(b"refused 14"),
-        QuestionRefusal::TooDry => say(b"refused 15"),
     }
     say(b"\n");
 }
