@@ -20,7 +20,8 @@ use Rattle.bytes.proofs.LentLaws.{refused-leaves}
 use Rattle.watchfile.specs.Rules.{minuteRight, rank}
 use Rattle.watchfile.specs.Format.{DewRule, kindOf, bodyRight, recordRight, rankOf, bodyBytes, bodiesBytes, fileOf, reading, past, writing}
 use Rattle.watchfile.specs.declared.Record.{Record}
-use Rattle.writer.proofs.SizeLaws.{size-most, length-body, length-file}
+use Rattle.watchfile.proofs.FieldLaws.{size-most}
+use Rattle.writer.proofs.SizeLaws.{length-body, length-file}
 use Rattle.writer.proofs.RightLaws.{AllRight, right-goes-on}
 use Rattle.writer.proofs.ReadWrittenLaws.{read-right}
 use Rattle.writer.proofs.RoundTrips.{written-then-read}

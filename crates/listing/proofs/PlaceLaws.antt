@@ -1,11 +1,9 @@
 -- The place where a broken file is wrong lies within the file, or at its end: each field ends behind its first byte, and is tested
 -- once it is whole. Assumes nothing.
 use mathlib.Core.Path.{_≡_}
-use mathlib.Core.Bool.{Bool, true, false, cond}
 use mathlib.Core.List.{List, [], _∷_, _++_}
 use Prim.Native.Nat.{ℕ, zero, suc, _+_, _≤_}
 use native.Mathlib.Omega.{arith}
-use lib.Dec.{eqb}
 use lib.IntN.{ℤ}
 use lib.ListN.{length, getD, drop}
 use Rattle.number.specs.Refusal.{refused}
@@ -14,6 +12,7 @@ use Rattle.watchfile.specs.Rules.{sizeOf, rank}
 use Rattle.watchfile.specs.Fields.{Field, placed}
 use Rattle.watchfile.specs.Format.{bodyFields, rowFields, rowsFields, bodiesFields, headFields, fields, countOf, startOf, records, reading}
 use Rattle.watchfile.proofs.FieldLaws.{Ordered, place-within}
+use Rattle.reader.proofs.SizeLaws.{body-ordered}
 
 ordered-join : (fs gs : List Field) → Ordered fs → Ordered gs → Ordered (fs ++ gs)
 ordered-join [] gs p q = q
@@ -22,16 +21,6 @@ ordered-join (f ∷ fs) gs p q = (p .0, ordered-join fs gs (p .1) q)
 ordered-placed : (k : ℕ) (fs : List Field) → Ordered fs → Ordered (placed k fs)
 ordered-placed k [] p = tt
 ordered-placed k (f ∷ fs) p = (omega (arith, p .0), ordered-placed k fs (p .1))
-
-ordered-either : (t : Bool) (fs gs : List Field) → Ordered fs → Ordered gs → Ordered (cond t fs gs)
-ordered-either true fs gs p q = p
-ordered-either false fs gs p q = q
-
-ordered-body : (dew : ℕ → ℤ) (kind : ℕ) (s : List ℕ) → Ordered (bodyFields dew kind s)
-ordered-body dew kind s =
-    ordered-either (eqb kind 1) _ _ (omega arith, tt)
-    (ordered-either (eqb kind 2) _ _ (omega arith, (omega arith, tt))
-    (ordered-either (eqb kind 3) _ _ (omega arith, (omega arith, tt)) (omega arith, (omega arith, (omega arith, (omega arith, (omega arith, tt)))))))
 
 ordered-rows : (s : List ℕ) (n at next before : ℕ) → Ordered (rowsFields s n at next before)
 unfolding rowsFields
@@ -48,7 +37,7 @@ ordered-bodies dew s zero row at = (omega arith, tt)
 ordered-bodies dew s (suc n) row at =
     ordered-join (placed at (bodyFields dew (getD (drop row s) 0 0) (drop at s)))
     (bodiesFields dew s n (row + 8) (at + sizeOf (getD (drop row s) 0 0)))
-    (ordered-placed at (bodyFields dew (getD (drop row s) 0 0) (drop at s)) (ordered-body dew (getD (drop row s) 0 0) (drop at s)))
+    (ordered-placed at (bodyFields dew (getD (drop row s) 0 0) (drop at s)) (body-ordered dew (drop at s) (getD (drop row s) 0 0)))
     (ordered-bodies dew s n (row + 8) (at + sizeOf (getD (drop row s) 0 0)))
 
 ordered-fields : (dew : ℕ → ℤ) (s : List ℕ) → Ordered (fields dew s)

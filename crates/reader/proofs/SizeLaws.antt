@@ -1,20 +1,14 @@
--- The size of a body: at most nine bytes, and a body whose fields are right is whole. By its kind. Assumes nothing.
+-- A body whose fields are right is whole, and its fields stand in order. By its kind. Assumes nothing.
 use mathlib.Core.Bool.{Bool, true, false, cond}
 use mathlib.Core.List.{List}
 use Prim.Native.Nat.{ℕ, _≤_}
 use native.Mathlib.Omega.{arith}
-use lib.Dec.{eqb, lit≤}
+use lib.Dec.{eqb}
 use lib.IntN.{ℤ}
 use Rattle.number.proofs.Sizes.{either-way}
 use Rattle.watchfile.specs.Rules.{sizeOf}
 use Rattle.watchfile.specs.Format.{pressureFields, tendencyFields, windFields, humidityFields, bodyFields}
 use Rattle.watchfile.proofs.FieldLaws.{Passed, Ordered}
-
-pub size-most : (kind : ℕ) → sizeOf kind ≤ 9
-size-most kind =
-    either-way (λ n. n ≤ 9) (eqb kind 1) _ _ (lit≤ tt)
-    (either-way (λ n. n ≤ 9) (eqb kind 2) _ _ (lit≤ tt)
-    (either-way (λ n. n ≤ 9) (eqb kind 3) _ _ (lit≤ tt) (lit≤ tt)))
 
 module _ (rule : ℕ → ℤ) (s : List ℕ) where
   whole-by : (n : ℕ) (a b c : Bool) → Passed n (cond a (pressureFields s) (cond b (tendencyFields s) (cond c (windFields s) (humidityFields rule s))))

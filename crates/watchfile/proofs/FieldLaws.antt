@@ -7,11 +7,12 @@ use Prim.Native.Nat.{ℕ, _+_, _-_, _≤_, _<_}
 use native.Mathlib.Omega.{arith}
 use native.Mathlib.Decide.{decLe}
 use native.Mathlib.Nat.{lt-of-not-le}
-use lib.Dec.{ltb}
+use lib.Dec.{eqb, ltb, lit≤}
 use borrow.Author.Tests.{lt-ltb, le-ltb, ltb-false}
 use Rattle.number.specs.Refusal.{Answer, refused, given, answer}
 use Rattle.number.proofs.RefusalLaws.{refused-stays, given-goes-on}
-use Rattle.number.proofs.Sizes.{impossible}
+use Rattle.number.proofs.Sizes.{either-way, impossible}
+use Rattle.watchfile.specs.Rules.{sizeOf}
 use Rattle.watchfile.specs.Fields.{Field, fieldTests, placed}
 
 -- ---- the first field
@@ -122,3 +123,11 @@ place-within n (f ∷ fs) a k o h =
     one-within (ltb n (f .whole)) (f .right) n (f .at) k (answer (fieldTests n fs) a) h
     (λ e. let w = ltb-false n (f .whole) e in let l = o .0 in omega arith)
     (λ e. place-within n fs a k (o .1) e)
+
+-- ---- the size of a body
+
+pub size-most : (kind : ℕ) → sizeOf kind ≤ 9
+size-most kind =
+    either-way (λ n. n ≤ 9) (eqb kind 1) _ _ (lit≤ tt)
+    (either-way (λ n. n ≤ 9) (eqb kind 2) _ _ (lit≤ tt)
+    (either-way (λ n. n ≤ 9) (eqb kind 3) _ _ (lit≤ tt) (lit≤ tt)))

@@ -1,22 +1,14 @@
 -- The numbers of bytes: of a body by its kind, of the contents, of the file. Assumes nothing.
 use mathlib.Core.Path.{_≡_, refl, _∙_}
 use mathlib.Core.List.{List, [], _∷_}
-use Prim.Native.Nat.{ℕ, _+_, _*_, _≤_}
+use Prim.Native.Nat.{ℕ, _+_, _*_}
 use native.Mathlib.Omega.{arith}
-use lib.Dec.{eqb, lit≤}
 use lib.ListN.{length, length-append}
-use Rattle.number.proofs.Sizes.{either-way}
 use Rattle.watchfile.specs.Rules.{sizeOf}
 use Rattle.watchfile.specs.Format.{kindOf, bodyBytes, rowBytes, rowsBytes, bodiesBytes, fileOf, startOf}
 use Rattle.watchfile.specs.declared.Body.{Body}
 use Rattle.watchfile.specs.declared.Body.the-variants.{Pressure, Tendency, Wind, Humidity}
 use Rattle.watchfile.specs.declared.Record.{Record}
-
-pub size-most : (kind : ℕ) → sizeOf kind ≤ 9
-size-most kind =
-    either-way (λ n. n ≤ 9) (eqb kind 1) _ _ (lit≤ tt)
-    (either-way (λ n. n ≤ 9) (eqb kind 2) _ _ (lit≤ tt)
-    (either-way (λ n. n ≤ 9) (eqb kind 3) _ _ (lit≤ tt) (lit≤ tt)))
 
 pub length-body : (b : Body) → length (bodyBytes b) ≡ sizeOf (kindOf b)
 length-body (Pressure p) = refl

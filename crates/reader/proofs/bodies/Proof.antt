@@ -13,12 +13,11 @@ use Rattle.watchfile.specs.Rules.{sizeOf, rank}
 use Rattle.watchfile.specs.Format.{DewRule, blank, rowsFields, bodyOf, bodiesFields, recordsFrom, startOf}
 use Rattle.watchfile.specs.declared.Record.{Record}
 use Rattle.watchfile.proofs.DewRules.{the-rule}
-use Rattle.watchfile.proofs.FieldLaws.{Passed, given-passed}
+use Rattle.watchfile.proofs.FieldLaws.{Passed, given-passed, size-most}
 use Rattle.reader.specs.Work.{found}
 use Rattle.reader.specs.declared.BodyRead.{BodyRead}
 use Rattle.reader.proofs.ContentsLaws.{part, length-part}
 use Rattle.reader.proofs.ReadLaws.{hands}
-use Rattle.reader.proofs.SizeLaws.{size-most}
 use Rattle.reader.proofs.BodiesLaws.{kindAt, kind-is, row-right, BodyAt, body-stop, body-on, end-extra, end-none, record-is, records-on, blanks-on, records-done}
 use Rattle.reader.proofs.bodies.Statement.{statement}
 use Rattle.reader.proofs.bodies.Tie as tie

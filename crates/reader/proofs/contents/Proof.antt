@@ -9,7 +9,7 @@ use Rattle.watchfile.specs.Rules.{rank}
 use Rattle.watchfile.specs.Format.{rowsFields, startOf}
 use Rattle.reader.specs.Work.{found}
 use Rattle.reader.proofs.ContentsLaws.{row-stop, row-on, rows-done}
-use Rattle.reader.proofs.SizeLaws.{size-most}
+use Rattle.watchfile.proofs.FieldLaws.{size-most}
 use Rattle.reader.proofs.contents.Statement.{statement}
 use Rattle.reader.proofs.contents.Tie as tie
 

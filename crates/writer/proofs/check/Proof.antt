@@ -12,7 +12,8 @@ use Rattle.number.specs.Refusal.{answer}
 use Rattle.watchfile.specs.Rules.{sizeOf, rank}
 use Rattle.watchfile.specs.Format.{DewRule, kindOf, bodiesBytes, fileOf, recordTests, past}
 use Rattle.writer.specs.Write.{rulesTests}
-use Rattle.writer.proofs.SizeLaws.{size-most, length-file}
+use Rattle.watchfile.proofs.FieldLaws.{size-most}
+use Rattle.writer.proofs.SizeLaws.{length-file}
 use Rattle.writer.proofs.RestLaws.{rest, at, rest-whole, rest-done, rest-past, rest-shorter, bodies-shorter, bodies-none, tests-on, tests-stop, tests-none}
 use Rattle.writer.proofs.WriteLaws.{past-stops, past-goes-on}
 use Rattle.writer.proofs.check.Statement.{statement}

@@ -11,7 +11,7 @@ use Rattle.bytes.specs.Bytes.{bytes16, bytes32}
 use Rattle.watchfile.specs.Rules.{sizeOf}
 use Rattle.watchfile.specs.Format.{kindOf, rowsBytes, bodiesBytes, startOf}
 use Rattle.writer.proofs.PartLaws.{part, length-part}
-use Rattle.writer.proofs.SizeLaws.{size-most}
+use Rattle.watchfile.proofs.FieldLaws.{size-most}
 use Rattle.writer.proofs.RestLaws.{rest, at, rest-whole, rest-done, bodies-shorter, rows-none, bodies-none}
 use Rattle.writer.proofs.TurnLaws.{row-put-length, body-room, put-length, put-turn}
 use Rattle.writer.proofs.write_records.Statement.{statement}
