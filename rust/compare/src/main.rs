@@ -3,6 +3,7 @@
 //!
 //! usage: compare [--long] [--only KIND] [SEED]
 
+mod blocks;
 mod files;
 mod humidity;
 mod messages;
@@ -44,5 +45,6 @@ fn main() {
     humidity::pairs(&mut tally);
     files::compare(&mut tally, &mut r, 10_000 * times);
     files::damage(&mut tally, &mut r, 4 * times);
+    blocks::compare(&mut tally, &mut r, 1_000 * times);
     tally.print();
 }

@@ -31,7 +31,31 @@ impl Chosen {
         }
     }
 
-    fn line(&self) -> String {
+    /// What the independent side does with these settings.
+    pub fn independent<T>(&self, open: impl FnOnce(&settings::Settings) -> T) -> T {
+        let certificate: Vec<settings::Point> = self
+            .points
+            .iter()
+            .map(|&(reading, correction)| settings::Point {
+                reading,
+                correction,
+            })
+            .collect();
+        open(&settings::Settings {
+            unit: if self.mm_hg {
+                settings::Unit::MmHg
+            } else {
+                settings::Unit::HPa
+            },
+            height: self.height,
+            difference: self.difference,
+            coefficient: self.coefficient,
+            psychrometer: self.psychrometer,
+            certificate: &certificate,
+        })
+    }
+
+    pub fn line(&self) -> String {
         let unit = if self.mm_hg { "mmHg" } else { "hPa" };
         let points: String = self
             .points
@@ -73,7 +97,10 @@ fn proved<T>(answer: Result<T, Refused>, figures: impl FnOnce(T) -> [i32; 5]) ->
     answer.map_or_else(proved_refusal, |a| Answer::Given(figures(a)))
 }
 
-fn independent<T>(answer: Result<T, Independent>, figures: impl FnOnce(T) -> [i32; 5]) -> Answer {
+pub fn independent<T>(
+    answer: Result<T, Independent>,
+    figures: impl FnOnce(T) -> [i32; 5],
+) -> Answer {
     answer.map_or_else(independent_refusal, |a| Answer::Given(figures(a)))
 }
 
@@ -108,26 +135,7 @@ impl Pair {
             psychrometer: chosen.psychrometer,
             certificate: &certificate,
         });
-        let certificate: Vec<settings::Point> = chosen
-            .points
-            .iter()
-            .map(|&(reading, correction)| settings::Point {
-                reading,
-                correction,
-            })
-            .collect();
-        let b = station::Store::open(&settings::Settings {
-            unit: if chosen.mm_hg {
-                settings::Unit::MmHg
-            } else {
-                settings::Unit::HPa
-            },
-            height: chosen.height,
-            difference: chosen.difference,
-            coefficient: chosen.coefficient,
-            psychrometer: chosen.psychrometer,
-            certificate: &certificate,
-        });
+        let b = chosen.independent(station::Store::open);
         let told = |err: Option<Answer>| err.unwrap_or(Answer::Given([0; 5]));
         tally.answers(
             "open",

@@ -8,7 +8,7 @@ const STORES: usize = 4;
 const LAST: u32 = 16_777_215;
 
 /// Settings, mostly within their limits and often at them; sometimes outside.
-fn chosen(r: &mut Random) -> Chosen {
+pub fn chosen(r: &mut Random) -> Chosen {
     let mm_hg = r.once_in(2);
     let (low, high) = if mm_hg { (6400, 8250) } else { (8500, 11000) };
     let wrong = r.once_in(4);

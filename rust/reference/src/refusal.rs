@@ -59,10 +59,14 @@ pub enum Refused {
         /// field is cut short, or the first extra byte."
         place: usize,
     },
+    /// 255, which document 01 does not have: memory that was never opened is
+    /// asked or told something.
+    NoStore,
 }
 
 impl Refused {
-    /// The number that document 01 gives this refusal.
+    /// The number that document 01 gives this refusal; 255 for the one that it
+    /// does not have.
     pub const fn number(self) -> u8 {
         match self {
             Refused::MessageLength => 1,
@@ -83,6 +87,7 @@ impl Refused {
             Refused::Record { .. } => 16,
             Refused::Room { .. } => 17,
             Refused::Broken { .. } => 18,
+            Refused::NoStore => 255,
         }
     }
 }
@@ -128,6 +133,7 @@ mod tests {
             (Refused::Record { index: 48 }, "refused 16 48"),
             (Refused::Room { needed: 4 }, "refused 17 4"),
             (Refused::Broken { place: 41 }, "refused 18 at 41"),
+            (Refused::NoStore, "refused 255"),
         ];
         for (refused, line) in lines {
             assert_eq!(refused.to_string(), line);

@@ -132,6 +132,37 @@ impl Store {
     }
 }
 
+/// Memory in which a store can be opened. "A refused opening gives no store", and
+/// leaves the one that is there.
+#[derive(Clone, Debug, Default)]
+pub struct Memory {
+    store: Option<Store>,
+}
+
+impl Memory {
+    /// An empty store with these settings in place of what was there, or refusal 9
+    /// or 10, and then nothing has changed.
+    pub fn open(&mut self, settings: &Settings) -> Result<(), Refused> {
+        self.store = Some(Store::open(settings)?);
+        Ok(())
+    }
+
+    /// What its store says to a message; where none was opened, [`Refused::NoStore`]
+    /// whatever the message is.
+    pub fn hear(&mut self, message: &[u8]) -> Result<(), Refused> {
+        self.store
+            .as_mut()
+            .ok_or(Refused::NoStore)
+            .and_then(|store| store.hear(message))
+    }
+
+    /// Its store, to be asked; where none was opened, [`Refused::NoStore`] is the
+    /// answer to every question.
+    pub fn store(&self) -> Result<&Store, Refused> {
+        self.store.as_ref().ok_or(Refused::NoStore)
+    }
+}
+
 /// Refusal 5: a question about a minute that cannot be.
 #[inline]
 fn asked(minute: u32) -> Result<(), Refused> {
