@@ -95,8 +95,8 @@ file-again s are x count r good before after y room w =
     let rule = the-rule .0 in
     let f = found (reading rule s) x count (read-is s x r rule (the-rule .1)) good in
     let out : writing rule (x .records) count (length before) ≡ given s =
-        ap (λ (n : ℕ). writing rule (x .records) n (length before)) (f .many)
-        ∙ read-then-written rule s (f .records) are (f .is) (x .records) (length before) (ap (λ (n : ℕ). take n (x .records)) (sym (f .many)) ∙ f .same) room in
+    ap (λ (n : ℕ). writing rule (x .records) n (length before)) (f .many)
+    ∙ read-then-written rule s (f .records) are (f .is) (x .records) (length before) (ap (λ (n : ℕ). take n (x .records)) (sym (f .many)) ∙ f .same) room in
     let wrote = write-is (x .records) count before y after w rule (the-rule .1) in
     (done y (length s) (wrote .answer ∙ ap sized out), ap (take (length s)) (wrote .bytes ∙ ap (leftBy before) out) ∙ take-append-seam s _)
 
@@ -109,12 +109,11 @@ records-again all count before after size enough w x r =
     let wrote = write-is all count before (Done size) after w rule (the-rule .1) in
     let l = given-lays (writing rule all count (length before)) before size (sym (wrote .answer)) in
     let file-is : take size after ≡ l .0 =
-        ap (λ (n : ℕ). take n after) (sym (l .2)) ∙ ap (take (length (l .0))) (wrote .bytes ∙ l .3) ∙ take-append-seam (l .0) _ in
+    ap (λ (n : ℕ). take n after) (sym (l .2)) ∙ ap (take (length (l .0))) (wrote .bytes ∙ l .3) ∙ take-append-seam (l .0) _ in
     let back : reading rule (take size after) ≡ given (take count all) =
-        ap (reading rule) file-is ∙ written-then-read rule all count (length before) (l .0) (l .1) (the-rule .1) in
+    ap (reading rule) file-is ∙ written-then-read rule all count (length before) (l .0) (l .1) (the-rule .1) in
     let h = subst (λ (a : Answer ℕ (List Record)). HandsBack a x) back (read-is (take size after) x r rule (the-rule .1)) in
-    let many : length (take count all) ≡ count = omega (arith, length-take count all) in
-    (
+    let many : length (take count all) ≡ count = omega (arith, length-take count all) in (
       verdict-by (x .verdict) (Good count) (h .verdict ∙ ap given many),
       ap (λ (n : ℕ). take n (x .records)) (sym many) ∙ ap (take (length (take count all))) (h .records) ∙ take-append-seam (take count all) _,
     )

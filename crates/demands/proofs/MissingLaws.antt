@@ -68,9 +68,10 @@ module _ (S : Source) (m : ℕ) (table : ℤ → ℕ) where
       let e = passed _ _ R f (d .1) in
       let i = and-true (isIn (question tendency .channels) c) (isIn (question tendency .minutes m) j) r in
       let k : isIn (m ∷ (m - threeHours) ∷ []) j ≡ true = rw (t .0, u .0) at (i .1) in
-      in-each (λ (x : ℕ). There x j) (0 ∷ 1 ∷ []) c (i .0)
-      (in-each (There 0) (m ∷ (m - threeHours) ∷ []) j k (not-false _ (d .0), (not-false _ (a .0), tt)),
-      (in-each (There 1) (m ∷ (m - threeHours) ∷ []) j k (not-false _ (e .0), (not-false _ (b .0), tt)), tt))
+      in-each (λ (x : ℕ). There x j) (0 ∷ 1 ∷ []) c (i .0) (
+        in-each (There 0) (m ∷ (m - threeHours) ∷ []) j k (not-false _ (d .0), (not-false _ (a .0), tt)),
+        (in-each (There 1) (m ∷ (m - threeHours) ∷ []) j k (not-false _ (e .0), (not-false _ (b .0), tt)), tt),
+      )
   there wind f w c j r =
       let R = question wind .Rule S m in
       let t = passed _ _ R f w in

@@ -114,12 +114,27 @@ lent s = record { ptr = (0, 0); name = 0; now = s }
 goes-on : (b m : List ℕ) → (h : Hearing) × (b′ : List ℕ) × Hears b m h b′
 unfolding hearing lent
 goes-on b m =
-    let a = some-answer (unopened b ∷ hearTests b m)
-        ((NoStore, refl), ((Refused NotSixteenBytes, refl), ((Refused NoSuchChannel, refl), ((Refused ByteNotZero, refl), ((Refused WetBulbNotWater, refl),
-        ((Refused MinuteTooLate, refl), ((Refused NotFinite, refl), ((Refused OutsideLimits, refl), ((NotLater, refl), tt)))))))))
-        (entryOfBytes b m) in
-    (a .0, heardBy b m,
-    (([], ([], tt)), (lent b, (lent m, tt)), a .0, (at-last (lent b) (heardBy b m), (lent m, tt)), record { answer = a .1; block = refl }, (refl, refl, refl, refl)))
+    let a = some-answer (unopened b ∷ hearTests b m) (
+      (NoStore, refl),
+      (
+        (Refused NotSixteenBytes, refl),
+        (
+          (Refused NoSuchChannel, refl),
+          (
+            (Refused ByteNotZero, refl),
+            (
+              (Refused WetBulbNotWater, refl),
+              ((Refused MinuteTooLate, refl), ((Refused NotFinite, refl), ((Refused OutsideLimits, refl), ((NotLater, refl), tt)))),
+            ),
+          ),
+        ),
+      ),
+    )
+    (entryOfBytes b m) in (
+      a .0,
+      heardBy b m,
+      (([], ([], tt)), (lent b, (lent m, tt)), a .0, (at-last (lent b) (heardBy b m), (lent m, tt)), record { answer = a .1; block = refl }, (refl, refl, refl, refl)),
+    )
 
 pub demand-1 : Demand1
 demand-1 =
