@@ -11,9 +11,9 @@ use lib.ListN.{length, take, drop, length-take}
 use lib.Seq.{take-append-seam}
 use Rattle.number.specs.Refusal.{Numbered, numbered, Answer, refused, given, answer}
 use Rattle.number.proofs.Sizes.{impossible}
-use Rattle.bytes.specs.Bytes.{AreBytes}
-use Rattle.bytes.specs.Lent.{sized, leftBy}
-use Rattle.bytes.proofs.LentLaws.{given-lays}
+use Rattle.octets.specs.Bytes.{AreBytes}
+use Rattle.octets.specs.Lent.{sized, leftBy}
+use Rattle.octets.proofs.LentLaws.{given-lays}
 use Rattle.watchfile.specs.Format.{DewRule, reading, writing}
 use Rattle.watchfile.specs.declared.Record.{Record}
 use Rattle.watchfile.proofs.DewRules.{the-rule}

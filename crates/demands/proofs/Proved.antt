@@ -31,8 +31,8 @@ use Rattle.heard.proofs.RefusalsInOrder.{question-refused, message-by-messages}
 use Rattle.heard.proofs.FedLaws.{same-fed, fed-again}
 use Rattle.heard.proofs.ReplacedLaws.{same-replaced}
 use Rattle.heard.proofs.SettingsAlike.{same-store}
-use Rattle.bytes.specs.Lent.{sized}
-use Rattle.bytes.proofs.LentLaws.{sized-refused}
+use Rattle.octets.specs.Lent.{sized}
+use Rattle.octets.proofs.LentLaws.{sized-refused}
 use Rattle.watchfile.specs.Format.{DewRule, reading, writing, writeTests}
 use Rattle.watchfile.specs.declared.Record.{Record}
 use Rattle.watchfile.proofs.DewRules.{the-rule}

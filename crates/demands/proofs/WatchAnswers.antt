@@ -43,7 +43,7 @@ use Rattle.station.specs.declared.WindAnswer.the-variants as wind
 use Rattle.station.specs.declared.HumidityAnswer.{HumidityAnswer}
 use Rattle.station.specs.declared.HumidityAnswer.the-variants as humidity
 use Rattle.heard.proofs.RefusalsInOrder.{message-by-messages}
-use Rattle.bytes.specs.Bytes.{bytes32}
+use Rattle.octets.specs.Bytes.{bytes32}
 
 -- ---- settings and messages
 

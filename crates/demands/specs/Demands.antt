@@ -22,7 +22,7 @@ use Rattle.vapour.specs.Vapour.{IsTable}
 use Rattle.station.specs.Source.{heard}
 use Rattle.station.specs.Questions.{Asked, pressure, tendency, wind, humidity, question, Reply, reads, Tells}
 use Rattle.heard.specs.Feeds.{SameSettings, fedTo, Replaced, messageTests}
-use Rattle.bytes.specs.Bytes.{AreBytes}
+use Rattle.octets.specs.Bytes.{AreBytes}
 use Rattle.watchfile.specs.Format.{DewRule, reading, fileTests, writeTests, recordRight}
 use Rattle.watchfile.specs.declared.Record.{Record}
 use Rattle.reader.specs.Read.{verdictAs}

@@ -9,8 +9,8 @@ use lib.IntN.{ℤ}
 use lib.ListN.{length, take, set, getD, length-take, length-set}
 use lib.Seq.{getD-take, take-all, take-take, take-suc, take-set-lt}
 use Rattle.number.specs.Refusal.{Test, Answer, refused, given, answer, Numbered, numbered}
-use Rattle.bytes.specs.Bytes.{AreBytes}
-use Rattle.bytes.specs.Lent.{short}
+use Rattle.octets.specs.Bytes.{AreBytes}
+use Rattle.octets.specs.Lent.{short}
 use Rattle.watchfile.specs.Format.{blank, recordRight, recordTests, past, rankOf, fileOf, reading, writing}
 use Rattle.watchfile.specs.declared.Record.{Record}
 use Rattle.reader.specs.Read.{verdictAs, counted, places}

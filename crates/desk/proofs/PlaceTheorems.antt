@@ -14,9 +14,9 @@ use borrow.Author.Tests.{ltb-true, lt-ltb, le-ltb}
 use Rattle.number.specs.Refusal.{Answer, refused, given, answer, Numbered, numbered}
 use Rattle.number.proofs.Sizes.{and-true}
 use Rattle.quantity.specs.Limits.{lastMinute, threeHours}
-use Rattle.bytes.specs.Bytes.{AreBytes}
-use Rattle.bytes.specs.Lent.{short}
-use Rattle.bytes.proofs.LentLaws.{refused-leaves}
+use Rattle.octets.specs.Bytes.{AreBytes}
+use Rattle.octets.specs.Lent.{short}
+use Rattle.octets.proofs.LentLaws.{refused-leaves}
 use Rattle.watchfile.specs.Rules.{minuteRight, rank}
 use Rattle.watchfile.specs.Format.{DewRule, kindOf, bodyRight, recordRight, rankOf, bodyBytes, bodiesBytes, fileOf, reading, past, writing}
 use Rattle.watchfile.specs.declared.Record.{Record}

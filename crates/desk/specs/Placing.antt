@@ -7,7 +7,7 @@ use lib.Dec.{ltb, leb, eqb}
 use lib.IntN.{ℤ}
 use lib.ListN.{length, take}
 use Rattle.number.specs.Refusal.{Answer, refused, given, Numbered, numbered}
-use Rattle.bytes.specs.Lent.{sized, leftBy}
+use Rattle.octets.specs.Lent.{sized, leftBy}
 use Rattle.watchfile.specs.Format.{reading, brokenAt, writing, rankOf}
 use Rattle.watchfile.specs.declared.Record.{Record}
 use Rattle.desk.specs.declared.Placed.{Placed}

@@ -1,18 +1,16 @@
 -- The watch with a gap: the messages sent, and what a minute's recall says.
 use mathlib.Core.Bool.{cond}
 use mathlib.Core.List.{List, [], _∷_, _++_}
-use Prim.Native.Nat.{ℕ, _/_, _%_}
+use Prim.Native.Nat.{ℕ}
 use lib.Dec.{eqb}
 use lib.IntN.{natAbs}
+use Rattle.octets.specs.Bytes.{bytes32}
 use Rattle.message.specs.Receive.{Figure, hPa, mmHg, °C, m/s, kn, deg, none}
 use Rattle.cell.specs.Cells.{Recall, absent, recalled}
 
--- Four bytes of a number; the message of a channel at a minute with the pattern of one value.
-abbrev pub four : ℕ → List ℕ
-four n = n % 256 ∷ n / 256 % 256 ∷ n / 65536 % 256 ∷ n / 16777216 ∷ []
-
+-- The message of a channel at a minute with the pattern of one value.
 abbrev pub sent : ℕ → ℕ → ℕ → List ℕ
-sent channel minute value = channel ∷ 0 ∷ 0 ∷ 0 ∷ four minute ++ four value ++ four 0
+sent channel minute value = channel ∷ 0 ∷ 0 ∷ 0 ∷ bytes32 minute ++ bytes32 value ++ bytes32 0
 
 -- The messages up to each minute, newest first: 1013.2 hPa and 12.5 °C; 1009.7 hPa and 13.0 °C; 1008.4 hPa and 13.5 °C.
 abbrev pub to-100 : List (List ℕ)

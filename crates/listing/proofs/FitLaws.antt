@@ -12,8 +12,8 @@ use borrow.Author.Tests.{leb-true}
 use Rattle.number.specs.Refusal.{Answer, refused, given}
 use Rattle.number.proofs.RefusalLaws.{given-is}
 use Rattle.text.proofs.DecimalLaws.{decimal-length, decimalOf-length}
-use Rattle.bytes.specs.Bytes.{AreBytes, le16, le32}
-use Rattle.bytes.proofs.ByteLaws.{bytes-drop, le16-small, le32-small, signed16-small}
+use Rattle.octets.specs.Bytes.{AreBytes, le16, le32}
+use Rattle.octets.proofs.ByteLaws.{bytes-drop, le16-small, le32-small, signed16-small}
 use Rattle.watchfile.specs.Rules.{sizeOf}
 use Rattle.watchfile.specs.Fields.{fieldTests}
 use Rattle.watchfile.specs.Format.{bodyOf, fields, countOf, startOf, recordsFrom, records, reading}

@@ -10,8 +10,8 @@ use lib.Seq.{take-at, drop-at}
 use borrow.Author.Tests.{le-ltb}
 use Rattle.number.specs.Refusal.{refused, given, answer, Numbered}
 use Rattle.number.proofs.RefusalLaws.{given-is}
-use Rattle.bytes.specs.Bytes.{AreBytes}
-use Rattle.bytes.proofs.LentLaws.{refused-leaves, given-lays}
+use Rattle.octets.specs.Bytes.{AreBytes}
+use Rattle.octets.proofs.LentLaws.{refused-leaves, given-lays}
 use Rattle.watchfile.specs.Format.{reading}
 use Rattle.listing.specs.Listing.{listingOf, TEXT, listTests, listing, listedAs, Lists}
 use Rattle.listing.specs.declared.Listed.{Listed}

@@ -7,7 +7,7 @@ use native.Mathlib.Omega.{arith}
 use lib.IntN.{ℤ}
 use lib.ListN.{length, getD, drop}
 use Rattle.number.specs.Refusal.{refused}
-use Rattle.bytes.specs.Bytes.{le32}
+use Rattle.octets.specs.Bytes.{le32}
 use Rattle.watchfile.specs.Rules.{sizeOf, rank}
 use Rattle.watchfile.specs.Fields.{Field, placed}
 use Rattle.watchfile.specs.Format.{bodyFields, rowFields, rowsFields, bodiesFields, headFields, fields, countOf, startOf, records, reading}

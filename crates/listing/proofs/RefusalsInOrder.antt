@@ -7,8 +7,8 @@ use Prim.Native.Nat.{ℕ}
 use lib.ListN.{length}
 use Rattle.number.specs.Refusal.{refused, given, Holds, Numbered, First}
 use Rattle.number.proofs.RefusalLaws.{refused-exactly, given-exactly}
-use Rattle.bytes.specs.Lent.{sized}
-use Rattle.bytes.proofs.LentLaws.{sized-refused}
+use Rattle.octets.specs.Lent.{sized}
+use Rattle.octets.proofs.LentLaws.{sized-refused}
 use Rattle.listing.specs.Listing.{listTests, listing, listedAs, Lists}
 use Rattle.listing.specs.declared.Listed.{Listed}
 

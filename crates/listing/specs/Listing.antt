@@ -4,7 +4,7 @@ use mathlib.Core.List.{List, [], _∷_, _++_}
 use Prim.Native.Nat.{ℕ, _+_, _*_}
 use lib.ListN.{length}
 use Rattle.number.specs.Refusal.{Test, Answer, refused, given, answer, Numbered, numbered}
-use Rattle.bytes.specs.Lent.{short, sized, leftBy}
+use Rattle.octets.specs.Lent.{short, sized, leftBy}
 use Rattle.text.specs.Letters.{letters}
 use Rattle.text.specs.Text.{field, fieldOf, end}
 use Rattle.watchfile.specs.declared.Body.{Body}

@@ -11,7 +11,7 @@ use lib.Seq.{take-suc-set, drop-set-lt, drop-drop}
 use borrow.Author.Tests.{eq-eqb, ne-eqb, eqb-true}
 use Rattle.number.specs.Refusal.{refused, given, answer}
 use Rattle.number.proofs.RefusalLaws.{given-is}
-use Rattle.bytes.specs.Bytes.{le16, le32}
+use Rattle.octets.specs.Bytes.{le16, le32}
 use Rattle.watchfile.specs.Rules.{sizeOf, rank}
 use Rattle.watchfile.specs.Fields.{Field, fieldTests, placed}
 use Rattle.watchfile.specs.Format.{blank, rowsFields, bodyFields, bodyOf, bodiesFields, recordsFrom}

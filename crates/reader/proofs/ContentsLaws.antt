@@ -7,7 +7,7 @@ use lib.ListN.{length, take, drop, getD, length-drop}
 use lib.Seq.{take-all}
 use Rattle.number.specs.Refusal.{refused, given, answer}
 use Rattle.number.proofs.RefusalLaws.{given-is}
-use Rattle.bytes.specs.Bytes.{le32}
+use Rattle.octets.specs.Bytes.{le32}
 use Rattle.watchfile.specs.Rules.{sizeOf, rank}
 use Rattle.watchfile.specs.Fields.{Field, fieldTests, placed}
 use Rattle.watchfile.specs.Format.{rowFields, rowsFields}

@@ -5,7 +5,7 @@ use Prim.Native.Nat.{ℕ}
 use lib.IntN.{ℤ}
 use lib.ListN.{getD, length, drop}
 use Rattle.number.specs.Refusal.{Answer, refused, given, answer}
-use Rattle.bytes.specs.Bytes.{le32}
+use Rattle.octets.specs.Bytes.{le32}
 use Rattle.watchfile.specs.Fields.{Field, fieldTests}
 use Rattle.watchfile.specs.Format.{humidityFields, bodyOf, rowFields, rowsFields, bodiesFields, recordsFrom, startOf}
 use Rattle.watchfile.specs.declared.Body.{Body}

@@ -6,7 +6,7 @@ ghost use lib.Dec.{eqb};
 ghost use lib.IntN.{ℤ};
 ghost use lib.ListN.{length};
 ghost use Rattle.number.specs.Refusal.{refused, given};
-ghost use Rattle.bytes.specs.Bytes.{le16, le32};
+ghost use Rattle.octets.specs.Bytes.{le16, le32};
 ghost use Rattle.watchfile.specs.Format.{DewRule, pressureFields, tendencyFields, windFields, humidityFields, bodyFields, startOf, reading};
 ghost use Rattle.reader.specs.Read.{HandsBack};
 ghost use Rattle.reader.specs.Work.{derivedFields, BodyFound, RowFound, contentsAs, contentsOf, bodiesOf};
@@ -91,7 +91,7 @@ fn get16(s: &[u8], k: usize) -> u16
     requires { ⌜ k + 2 ≤ length (now s) ⌝ }
     ensures { λ r. ⌜ r ≡ le16 (now (s .entry)) k ⌝ }
 {
-    bytes::two(s[k], s[k + 1])
+    octets::two(s[k], s[k + 1])
 }
 
 // The number in four bytes of s from place k on.
@@ -99,7 +99,7 @@ fn get32(s: &[u8], k: usize) -> u32
     requires { ⌜ k + 4 ≤ length (now s) ⌝ }
     ensures { λ r. ⌜ r ≡ le32 (now (s .entry)) k ⌝ }
 {
-    bytes::four(s[k], s[k + 1], s[k + 2], s[k + 3])
+    octets::four(s[k], s[k + 1], s[k + 2], s[k + 3])
 }
 
 // The body of a pressure, at the start of s.
@@ -123,7 +123,7 @@ fn read_tendency(s: &[u8]) -> BodyRead
     if s.len() < 2 {
         return BodyRead::Broken(s.len());
     }
-    let change = bytes::signed(get16(s, CHANGE));
+    let change = octets::signed(get16(s, CHANGE));
     if !watchfile::change_right(change) {
         return BodyRead::Broken(CHANGE);
     }
@@ -200,7 +200,7 @@ fn read_derived(s: &[u8], e: u16, saturation: u16) -> BodyRead
     if s.len() < 9 {
         return BodyRead::Broken(s.len());
     }
-    let dew = bytes::signed(get16(s, DEW));
+    let dew = octets::signed(get16(s, DEW));
     if watchfile::dew_right(e, dew) {
         return BodyRead::Good(Body::Humidity {
             e,

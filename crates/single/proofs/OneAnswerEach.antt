@@ -32,13 +32,13 @@ use Rattle.quantity.proofs.Millimetres.hectopascals.Reads as quantity-Millimetr
 use Rattle.quantity.proofs.MetresPerSecond.parts.Reads as quantity-MetresPerSecond-parts
 use Rattle.quantity.proofs.Knots.parts.Reads as quantity-Knots-parts
 use Rattle.quantity.proofs.Degrees.keep.Reads as quantity-Degrees-keep
-use Rattle.bytes.proofs.SingleAnswers as bytes
-use Rattle.bytes.proofs.two.Reads as bytes-two
-use Rattle.bytes.proofs.four.Reads as bytes-four
-use Rattle.bytes.proofs.in_two.Reads as bytes-in-two
-use Rattle.bytes.proofs.in_four.Reads as bytes-in-four
-use Rattle.bytes.proofs.signed.Reads as bytes-signed
-use Rattle.bytes.proofs.unsigned.Reads as bytes-unsigned
+use Rattle.octets.proofs.SingleAnswers as octets
+use Rattle.octets.proofs.two.Reads as octets-two
+use Rattle.octets.proofs.four.Reads as octets-four
+use Rattle.octets.proofs.in_two.Reads as octets-in-two
+use Rattle.octets.proofs.in_four.Reads as octets-in-four
+use Rattle.octets.proofs.signed.Reads as octets-signed
+use Rattle.octets.proofs.unsigned.Reads as octets-unsigned
 use Rattle.wire.proofs.SingleAnswers as wire
 use Rattle.wire.proofs.decode.Reads as wire-decode
 use Rattle.wire.proofs.number.Reads as wire-number
@@ -226,12 +226,12 @@ pub record OneAnswerEach : Type 0 where
   pub quantity-Knots-parts-single : Single quantity-Knots-parts.Post
   pub quantity-Degrees-keep-single : Single quantity-Degrees-keep.Post
   -- wire
-  pub bytes-two-single : Single bytes-two.Post
-  pub bytes-four-single : Single bytes-four.Post
-  pub bytes-in-two-single : Single bytes-in-two.Post
-  pub bytes-in-four-single : Single bytes-in-four.Post
-  pub bytes-signed-single : Single bytes-signed.Post
-  pub bytes-unsigned-single : Single bytes-unsigned.Post
+  pub octets-two-single : Single octets-two.Post
+  pub octets-four-single : Single octets-four.Post
+  pub octets-in-two-single : Single octets-in-two.Post
+  pub octets-in-four-single : Single octets-in-four.Post
+  pub octets-signed-single : Single octets-signed.Post
+  pub octets-unsigned-single : Single octets-unsigned.Post
   pub wire-decode-single : Single wire-decode.Post
   pub wire-number-single : Single wire-number.Post
   -- message
@@ -453,12 +453,12 @@ one-answer-each =
       quantity-MetresPerSecond-parts-single = quantity.single-metres-parts;
       quantity-Knots-parts-single = quantity.single-knots-parts;
       quantity-Degrees-keep-single = quantity.single-degrees-keep;
-      bytes-two-single = bytes.single-two;
-      bytes-four-single = bytes.single-four;
-      bytes-in-two-single = bytes.single-in-two;
-      bytes-in-four-single = bytes.single-in-four;
-      bytes-signed-single = bytes.single-signed;
-      bytes-unsigned-single = bytes.single-unsigned;
+      octets-two-single = octets.single-two;
+      octets-four-single = octets.single-four;
+      octets-in-two-single = octets.single-in-two;
+      octets-in-four-single = octets.single-in-four;
+      octets-signed-single = octets.single-signed;
+      octets-unsigned-single = octets.single-unsigned;
       wire-decode-single = wire.single-decode;
       wire-number-single = wire.single-number;
       message-receive-single = message.single-receive;

@@ -169,7 +169,7 @@ fn byte(words: &[u8], at: usize, to: u8) {
 
 fn number(words: &[u8], at: usize, to: u16) {
     let mut file = FOUR;
-    let two = bytes::in_two(to);
+    let two = octets::in_two(to);
     text::put_bytes(&mut file, at, &two);
     show(words, &file);
 }
@@ -279,7 +279,7 @@ fn humidities() {
     byte(b"the dew point one more", DEW, 117);
     byte(b"the dew point one less", DEW, 115);
     let mut file = FOUR;
-    let two = bytes::in_two(13000);
+    let two = octets::in_two(13000);
     text::put_bytes(&mut file, E, &two);
     text::put_bytes(&mut file, SATURATION, &two);
     show(b"e and saturation of 130.00, wrong at saturation", &file);
@@ -328,8 +328,8 @@ fn store_humidity(file: &mut [u8], i: u16)
     requires { ⌜ i < 48 ⌝ }
 {
     let at = 388 + 9 * i;
-    let offset = bytes::in_two(at);
-    let minute = bytes::in_two(1000 + i);
+    let offset = octets::in_two(at);
+    let minute = octets::in_two(1000 + i);
     text::put_bytes(
         file,
         4 + 8 * i as usize,

@@ -10,8 +10,8 @@ use lib.ListN.{length, getD, drop, take}
 use Rattle.number.specs.Refusal.{Test, Answer, answer, Numbered, numbered}
 use Rattle.number.specs.declared.Kept.{Kept}
 use Rattle.vapour.specs.Vapour.{DewPoint, recordedVapour}
-use Rattle.bytes.specs.Bytes.{le16, le32, bytes16, bytes32, signed16, unsigned16}
-use Rattle.bytes.specs.Lent.{short}
+use Rattle.octets.specs.Bytes.{le16, le32, bytes16, bytes32, signed16, unsigned16}
+use Rattle.octets.specs.Lent.{short}
 use Rattle.watchfile.specs.Rules.{kindRight, sizeOf, rank, minuteRight, pressureRight, changeRight, absentRight, speedRight, directionRight, eRight, saturationRight, deficitRight, relativeRight, dewRight}
 use Rattle.watchfile.specs.Fields.{Field, field, fieldTests, placed}
 use Rattle.watchfile.specs.declared.Body.{Body}

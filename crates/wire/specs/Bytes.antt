@@ -5,7 +5,7 @@ use Prim.Native.Nat.{ℕ}
 use lib.Dec.{eqb}
 use lib.ListN.{getD}
 use lib.Ieee.{Float, binary32, ofBits}
-use Rattle.bytes.specs.Bytes.{le32}
+use Rattle.octets.specs.Bytes.{le32}
 
 abbrev pub byte : List ℕ → ℕ → ℕ
 byte m at = getD m at 0

@@ -3,7 +3,7 @@ ghost use mathlib.Core.Path.{_≡_};
 ghost use Prim.Native.Nat.{_+_, _≤_};
 ghost use lib.ListN.{length};
 ghost use lib.Ieee.{binary32, ofBits};
-ghost use Rattle.bytes.specs.Bytes.{le32};
+ghost use Rattle.octets.specs.Bytes.{le32};
 ghost use Rattle.wire.specs.Bytes.{stray, notWater};
 ghost use Rattle.wire.specs.Finite.{isFinite, Finite};
 ghost use Rattle.wire.specs.Kinds.{kind};
@@ -72,7 +72,7 @@ fn word(bytes: &[u8], at: usize) -> u32
     requires { ⌜ at + 4 ≤ length (now bytes) ⌝ }
     ensures { λ r. ⌜ r ≡ le32 (now (bytes .entry)) at ⌝ }
 {
-    bytes::four(bytes[at], bytes[at + 1], bytes[at + 2], bytes[at + 3])
+    octets::four(bytes[at], bytes[at + 1], bytes[at + 2], bytes[at + 3])
 }
 
 // Whether a byte that must be zero is not: one of the pad, the state except on channel 5, the second value except on 2 and 3.

@@ -14,14 +14,14 @@ use borrow.Author.Tests.{leb-true, eqb-true}
 use Rattle.number.specs.Refusal.{given}
 use Rattle.number.proofs.RefusalLaws.{given-is}
 use Rattle.number.proofs.Sizes.{and-true}
-use Rattle.bytes.specs.Bytes.{AreBytes, le16, le32, bytes16, bytes32, signed16, unsigned16}
+use Rattle.octets.specs.Bytes.{AreBytes, le16, le32, bytes16, bytes32, signed16, unsigned16}
 use Rattle.watchfile.specs.Rules.{kindRight, sizeOf, rank, minuteRight}
 use Rattle.watchfile.specs.Fields.{Field, fieldTests, placed}
 use Rattle.watchfile.specs.Format.{bodyFields, bodyOf, rowFields, headFields, rowsFields, bodiesFields, fields, recordsFrom, records, countOf, startOf, reading, kindOf, bodyBytes, rowBytes, rowsBytes, bodiesBytes, fileOf, bodyRight}
 use Rattle.watchfile.specs.declared.Body.{Body}
 use Rattle.watchfile.specs.declared.Record.{Record}
 use Rattle.watchfile.proofs.FieldLaws.{Passed, given-passed}
-use Rattle.bytes.proofs.ByteLaws.{bytes16-back, bytes32-back, unsigned-is, bytes-drop}
+use Rattle.octets.proofs.ByteLaws.{bytes16-back, bytes32-back, unsigned-is, bytes-drop}
 use Rattle.writer.proofs.RightLaws.{AllRight, by-kind}
 use Rattle.writer.proofs.PassedLaws.{split, unplace}
 

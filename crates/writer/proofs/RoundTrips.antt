@@ -10,8 +10,8 @@ use lib.IntN.{ℤ}
 use lib.ListN.{length, take, length-take}
 use borrow.Author.Tests.{ltb-false, le-ltb}
 use Rattle.number.specs.Refusal.{refused, given, answer, Numbered, numbered}
-use Rattle.bytes.specs.Bytes.{AreBytes}
-use Rattle.bytes.specs.Lent.{short}
+use Rattle.octets.specs.Bytes.{AreBytes}
+use Rattle.octets.specs.Lent.{short}
 use Rattle.watchfile.specs.Format.{DewRule, reading, writing, fileOf, past}
 use Rattle.watchfile.specs.declared.Record.{Record}
 use Rattle.writer.proofs.RightLaws.{AllRight, right-goes-on, given-right}

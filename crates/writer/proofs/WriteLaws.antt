@@ -9,7 +9,7 @@ use lib.Seq.{sets, sets-eq, length-take-le}
 use borrow.Author.Tests.{lt-ltb, le-ltb}
 use Rattle.number.specs.Refusal.{Test, refused, given, answer, Numbered, numbered}
 use Rattle.number.proofs.RefusalLaws.{refused-stays, given-goes-on}
-use Rattle.bytes.specs.Lent.{short}
+use Rattle.octets.specs.Lent.{short}
 use Rattle.watchfile.specs.Format.{DewRule, recordTests, past, rowsBytes, bodiesBytes, fileOf, startOf, writing}
 use Rattle.watchfile.specs.declared.Record.{Record}
 use Rattle.writer.specs.Write.{Wrote, Checks, checkedAs, rulesTests}

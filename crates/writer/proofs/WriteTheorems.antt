@@ -7,7 +7,7 @@ use lib.IntN.{ℤ}
 use lib.ListN.{length, take, drop}
 use lib.Seq.{take-at, drop-at}
 use Rattle.number.specs.Refusal.{refused, given, Numbered}
-use Rattle.bytes.proofs.LentLaws.{refused-leaves, given-lays}
+use Rattle.octets.proofs.LentLaws.{refused-leaves, given-lays}
 use Rattle.watchfile.specs.Format.{DewRule, reading, writing}
 use Rattle.watchfile.specs.declared.Record.{Record}
 use Rattle.writer.specs.Write.{Wrote, writtenAs}

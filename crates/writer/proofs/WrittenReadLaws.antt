@@ -12,7 +12,7 @@ use borrow.Author.Tests.{eq-eqb, le-leb}
 use Rattle.number.specs.declared.Kept.{Kept}
 use Rattle.number.specs.Refusal.{given}
 use Rattle.number.proofs.Sizes.{and-true}
-use Rattle.bytes.specs.Bytes.{le32, signed16, unsigned16}
+use Rattle.octets.specs.Bytes.{le32, signed16, unsigned16}
 use Rattle.watchfile.specs.Rules.{sizeOf, rank, minuteRight, pressureRight, changeRight, absentRight, speedRight, directionRight, eRight, saturationRight, deficitRight, relativeRight, dewRight}
 use Rattle.watchfile.specs.Fields.{Field, placed}
 use Rattle.watchfile.specs.Format.{DewRule, kept, bodyFields, bodyOf, rowFields, headFields, rowsFields, bodiesFields, fields, recordsFrom, records, startOf, reading, kindOf, bodyBytes, rowBytes, rowsBytes, bodiesBytes, fileOf, bodyRight, rankOf}
@@ -21,7 +21,7 @@ use Rattle.watchfile.specs.declared.Body.the-variants.{Pressure, Tendency, Wind
 use Rattle.watchfile.specs.declared.Record.{Record}
 use Rattle.watchfile.proofs.FieldLaws.{Passed, passed-given}
 use Rattle.writer.proofs.SizeLaws.{length-body, length-rows}
-use Rattle.bytes.proofs.ByteLaws.{read16, read16-is, read32-is, signed-is}
+use Rattle.octets.proofs.ByteLaws.{read16, read16-is, read32-is, signed-is}
 use Rattle.writer.proofs.RightLaws.{AllRight, kind-right, change-fits, dew-fits}
 use Rattle.writer.proofs.PassedLaws.{join, place}
 

@@ -5,7 +5,7 @@ use Prim.Native.Nat.{ℕ, _≤_}
 use lib.IntN.{ℤ}
 use lib.ListN.{length, take}
 use Rattle.number.specs.Refusal.{Test, Answer, refused, given, answer, Numbered, numbered}
-use Rattle.bytes.specs.Lent.{sized, leftBy}
+use Rattle.octets.specs.Lent.{sized, leftBy}
 use Rattle.watchfile.specs.Format.{DewRule, fileOf, recordTests, past, writing}
 use Rattle.watchfile.specs.declared.Record.{Record}
 use Rattle.writer.specs.declared.Written.{Written}

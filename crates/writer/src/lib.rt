@@ -5,7 +5,7 @@ ghost use Prim.Native.Nat.{ℕ, _+_, _*_, _≤_};
 ghost use lib.IntN.{ℤ};
 ghost use lib.ListN.{length, take};
 ghost use lib.Seq.{sets};
-ghost use Rattle.bytes.specs.Bytes.{bytes16, bytes32};
+ghost use Rattle.octets.specs.Bytes.{bytes16, bytes32};
 ghost use Rattle.watchfile.specs.Rules.{sizeOf};
 ghost use Rattle.watchfile.specs.Format.{DewRule, kindOf, bodyBytes, rowsBytes, bodiesBytes, startOf};
 ghost use Rattle.writer.specs.Write.{Wrote, Checks};
@@ -37,7 +37,7 @@ fn put16(part: &mut [u8], at: usize, n: u16)
     requires { ⌜ at + 2 ≤ length (now part) ⌝ }
     ensures { λ _. ⌜ now (part .exit) ≡ sets (now (part .entry)) at (bytes16 n) ⌝ }
 {
-    let two = bytes::in_two(n);
+    let two = octets::in_two(n);
     part[at] = two[0];
     part[at + 1] = two[1];
 }
@@ -47,7 +47,7 @@ fn put32(part: &mut [u8], at: usize, n: u32)
     requires { ⌜ at + 4 ≤ length (now part) ⌝ }
     ensures { λ _. ⌜ now (part .exit) ≡ sets (now (part .entry)) at (bytes32 n) ⌝ }
 {
-    let four = bytes::in_four(n);
+    let four = octets::in_four(n);
     part[at] = four[0];
     part[at + 1] = four[1];
     part[at + 2] = four[2];
@@ -67,7 +67,7 @@ fn write_tendency(part: &mut [u8], change: Kept, absent: u8)
     requires { ⌜ 3 ≤ length (now part) ⌝ }
     ensures { λ _. ⌜ now (part .exit) ≡ sets (now (part .entry)) 0 (bodyBytes (Body.Tendency change absent)) ⌝ }
 {
-    let bits = bytes::unsigned(change);
+    let bits = octets::unsigned(change);
     put16(part, 0, bits);
     part[2] = absent;
 }
@@ -86,7 +86,7 @@ fn write_humidity(part: &mut [u8], e: u16, saturation: u16, deficit: u16, relati
     requires { ⌜ 9 ≤ length (now part) ⌝ }
     ensures { λ _. ⌜ now (part .exit) ≡ sets (now (part .entry)) 0 (bodyBytes (Body.Humidity e saturation deficit relative dew)) ⌝ }
 {
-    let bits = bytes::unsigned(dew);
+    let bits = octets::unsigned(dew);
     put16(part, 0, e);
     put16(part, 2, saturation);
     put16(part, 4, deficit);

@@ -12,7 +12,7 @@ use Rattle.store.specs.Block.{openedBy, hearing, heardBy, outcome}
 use Rattle.station.specs.Questions.{Asked, Reply, question, TellsOf}
 use Rattle.watchfile.specs.Format.{writing}
 use Rattle.watchfile.specs.declared.Record.{Record}
-use Rattle.bytes.specs.Lent.{sized, leftBy}
+use Rattle.octets.specs.Lent.{sized, leftBy}
 use Rattle.listing.specs.Listing.{listing}
 use Rattle.told.specs.Told.{Told, toldIn}
 use Rattle.told.specs.Opening.{settingsIn}

@@ -3,7 +3,7 @@ use native.Mathlib.Omega.{arith}
 use denote.Ref.{now}
 use lib.ListN.{take, length-take}
 use borrow.Author.Needs.{needs}
-use Rattle.bytes.proofs.ByteLaws.{bytes-take}
+use Rattle.octets.proofs.ByteLaws.{bytes-take}
 use Rattle.watchfile.specs.Format.{reading}
 use Rattle.watchfile.proofs.DewRules.{the-rule}
 use Rattle.desk.proofs.PlaceLaws.{broken-there, good-there, leaves-broken, leaves-placed}

@@ -8,7 +8,7 @@ use lib.IntN.{ℤ}
 use lib.ListN.{length, take, drop, getD, replicate, length-set}
 use borrow.Author.Needs.{needs}
 use Rattle.number.specs.Refusal.{Answer, refused, given}
-use Rattle.bytes.specs.Bytes.{le32}
+use Rattle.octets.specs.Bytes.{le32}
 use Rattle.watchfile.specs.Rules.{sizeOf, rank}
 use Rattle.watchfile.specs.Format.{DewRule, blank, rowsFields, bodyOf, bodiesFields, recordsFrom, startOf}
 use Rattle.watchfile.specs.declared.Record.{Record}

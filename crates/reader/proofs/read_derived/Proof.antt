@@ -5,7 +5,7 @@ use lib.ListN.{drop, getD}
 use Prim.Native.Nat.{ℕ}
 use borrow.Author.Tests.{not-true, not-false}
 use Rattle.number.specs.Refusal.{Answer}
-use Rattle.bytes.specs.Bytes.{le16, signed16}
+use Rattle.octets.specs.Bytes.{le16, signed16}
 use Rattle.watchfile.specs.Rules.{deficitRight, relativeRight, dewRight}
 use Rattle.watchfile.specs.Format.{DewRule, humidityFields, bodyOf}
 use Rattle.watchfile.specs.declared.Body.{Body}

@@ -5,7 +5,7 @@ use lib.ListN.{drop}
 use Prim.Native.Nat.{ℕ}
 use borrow.Author.Tests.{not-true, not-false}
 use Rattle.number.specs.Refusal.{Answer}
-use Rattle.bytes.specs.Bytes.{le16}
+use Rattle.octets.specs.Bytes.{le16}
 use Rattle.watchfile.specs.Rules.{eRight, saturationRight}
 use Rattle.watchfile.specs.Format.{humidityFields, bodyOf}
 use Rattle.watchfile.specs.declared.Body.{Body}

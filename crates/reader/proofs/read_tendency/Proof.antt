@@ -5,7 +5,7 @@ use lib.ListN.{drop, getD}
 use Prim.Native.Nat.{ℕ}
 use borrow.Author.Tests.{not-true, not-false}
 use Rattle.number.specs.Refusal.{Answer, given}
-use Rattle.bytes.specs.Bytes.{le16, signed16}
+use Rattle.octets.specs.Bytes.{le16, signed16}
 use Rattle.watchfile.specs.Rules.{changeRight}
 use Rattle.watchfile.specs.Format.{tendencyFields, bodyOf, kept}
 use Rattle.watchfile.specs.declared.Body.{Body}

@@ -4,7 +4,7 @@ use lib.ListN.{drop}
 use Prim.Native.Nat.{ℕ}
 use borrow.Author.Tests.{not-true, not-false}
 use Rattle.number.specs.Refusal.{Answer, given}
-use Rattle.bytes.specs.Bytes.{le16}
+use Rattle.octets.specs.Bytes.{le16}
 use Rattle.watchfile.specs.Rules.{speedRight, directionRight}
 use Rattle.watchfile.specs.Format.{windFields, bodyOf}
 use Rattle.watchfile.specs.declared.Body.{Body}

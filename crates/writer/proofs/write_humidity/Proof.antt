@@ -6,7 +6,7 @@ use native.Mathlib.Omega.{arith}
 use denote.Ref.{now}
 use lib.ListN.{length, set, length-set}
 use lib.Seq.{sets, length-sets}
-use Rattle.bytes.specs.Bytes.{bytes16}
+use Rattle.octets.specs.Bytes.{bytes16}
 use Rattle.watchfile.specs.Format.{bodyBytes}
 use Rattle.watchfile.specs.declared.Body.the-variants.{Humidity}
 use borrow.Author.Needs.{needs}

@@ -7,7 +7,7 @@ use denote.Ref.{now}
 use lib.ListN.{length, take}
 use lib.Seq.{sets}
 use borrow.Author.Needs.{needs}
-use Rattle.bytes.specs.Bytes.{bytes16, bytes32}
+use Rattle.octets.specs.Bytes.{bytes16, bytes32}
 use Rattle.watchfile.specs.Rules.{sizeOf}
 use Rattle.watchfile.specs.Format.{kindOf, rowsBytes, bodiesBytes, startOf}
 use Rattle.writer.proofs.PartLaws.{part, length-part}

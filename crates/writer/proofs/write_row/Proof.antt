@@ -6,7 +6,7 @@ use native.Mathlib.Omega.{arith}
 use denote.Ref.{now}
 use lib.ListN.{length, length-set}
 use lib.Seq.{sets, length-sets}
-use Rattle.bytes.specs.Bytes.{bytes16, bytes32}
+use Rattle.octets.specs.Bytes.{bytes16, bytes32}
 use borrow.Author.Needs.{needs}
 use Rattle.writer.proofs.write_row.Statement.{statement}
 use Rattle.writer.proofs.write_row.Tie as tie

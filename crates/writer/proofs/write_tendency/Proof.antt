@@ -5,7 +5,7 @@ use Prim.Native.Nat.{ℕ}
 use denote.Ref.{now}
 use lib.ListN.{set}
 use lib.Seq.{sets}
-use Rattle.bytes.specs.Bytes.{bytes16}
+use Rattle.octets.specs.Bytes.{bytes16}
 use borrow.Author.Needs.{needs}
 use Rattle.writer.proofs.write_tendency.Statement.{statement}
 use Rattle.writer.proofs.write_tendency.Tie as tie

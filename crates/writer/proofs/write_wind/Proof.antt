@@ -3,7 +3,7 @@ use mathlib.Core.Path.{ap, _∙_}
 use mathlib.Core.List.{List}
 use Prim.Native.Nat.{ℕ}
 use lib.Seq.{sets}
-use Rattle.bytes.specs.Bytes.{bytes16}
+use Rattle.octets.specs.Bytes.{bytes16}
 use borrow.Author.Needs.{needs}
 use Rattle.writer.proofs.write_wind.Statement.{statement}
 use Rattle.writer.proofs.write_wind.Tie as tie

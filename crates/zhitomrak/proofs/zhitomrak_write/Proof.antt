@@ -3,7 +3,7 @@ use mathlib.Core.Path.{sym, ap, _∙_}
 use mathlib.Core.List.{map}
 use lib.ListN.{length}
 use Rattle.number.specs.Refusal.{Answer, Numbered}
-use Rattle.bytes.specs.Lent.{sized, leftBy}
+use Rattle.octets.specs.Lent.{sized, leftBy}
 use Rattle.filed.specs.Files.{writeIn}
 use Rattle.handed.specs.Handed.{recordOf}
 use Rattle.handed.proofs.HandedLaws.{writing-by}

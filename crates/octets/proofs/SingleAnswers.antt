@@ -3,12 +3,12 @@ use mathlib.Core.Path.{sym, ap, _∙_}
 use lib.IntN.{ℤ}
 use Rattle.number.specs.Single.{Single}
 use Rattle.number.specs.declared.Kept.{Kept}
-use Rattle.bytes.proofs.two.Reads as two
-use Rattle.bytes.proofs.four.Reads as four
-use Rattle.bytes.proofs.in_two.Reads as in-two
-use Rattle.bytes.proofs.in_four.Reads as in-four
-use Rattle.bytes.proofs.signed.Reads as signed
-use Rattle.bytes.proofs.unsigned.Reads as unsigned
+use Rattle.octets.proofs.two.Reads as two
+use Rattle.octets.proofs.four.Reads as four
+use Rattle.octets.proofs.in_two.Reads as in-two
+use Rattle.octets.proofs.in_four.Reads as in-four
+use Rattle.octets.proofs.signed.Reads as signed
+use Rattle.octets.proofs.unsigned.Reads as unsigned
 
 pub single-two : Single two.Post
 single-two κs a r r′ s s′ p q = p ∙ sym q

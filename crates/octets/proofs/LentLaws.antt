@@ -6,7 +6,7 @@ use Prim.Native.Nat.{ℕ}
 use lib.ListN.{length, drop}
 use Rattle.number.specs.Refusal.{Answer, refused, given, Numbered}
 use Rattle.number.proofs.Sizes.{impossible}
-use Rattle.bytes.specs.Lent.{sized, leftBy}
+use Rattle.octets.specs.Lent.{sized, leftBy}
 
 pub refused-leaves : (a : Answer Numbered (List ℕ)) (before : List ℕ) (r : Numbered) → sized a ≡ refused r → leftBy before a ≡ before
 refused-leaves (refused q) before r e = refl

@@ -1,7 +1,7 @@
 // Numbers as bytes, little endian: the number that bytes hold, the bytes of a number, and signed numbers in two bytes.
 ghost use mathlib.Core.Path.{_≡_};
 ghost use mathlib.Core.List.{[], _∷_};
-ghost use Rattle.bytes.specs.Bytes.{le16, le32, bytes16, bytes32, signed16, unsigned16};
+ghost use Rattle.octets.specs.Bytes.{le16, le32, bytes16, bytes32, signed16, unsigned16};
 use number::Kept;
 use number::Number;
 

@@ -1,7 +1,7 @@
 -- `unsigned` meets its contract: each step gives the number that the rule names. Assumes nothing.
 use borrow.Author.Needs.{needs}
-use Rattle.bytes.proofs.unsigned.Statement.{statement}
-use Rattle.bytes.proofs.unsigned.Tie as tie
+use Rattle.octets.proofs.unsigned.Statement.{statement}
+use Rattle.octets.proofs.unsigned.Tie as tie
 
 number-requires : tie.Need-number-requires
 number-requires c κs = search needs

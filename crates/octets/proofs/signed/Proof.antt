@@ -4,8 +4,8 @@ use native.Mathlib.Omega.{arith}
 use lib.IntN.{ℤ, pos, natAbs, _-ℤ_}
 use borrow.Author.Tests.{lt-ltb, le-ltb}
 use borrow.Author.Needs.{needs}
-use Rattle.bytes.proofs.signed.Statement.{statement}
-use Rattle.bytes.proofs.signed.Tie as tie
+use Rattle.octets.proofs.signed.Statement.{statement}
+use Rattle.octets.proofs.signed.Tie as tie
 
 whole-requires : tie.Need-whole-requires
 whole-requires c κs = search needs

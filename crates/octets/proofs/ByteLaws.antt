@@ -11,7 +11,7 @@ use lib.IntN.{ℤ, pos, negsuc, natAbs, -ℤ-+ℤ-cancel}
 use lib.ListN.{length, getD, take, drop, length-take, List·getD-eq-default}
 use lib.Seq.{getD-take, getD-drop}
 use borrow.Author.Tests.{lt-ltb, le-ltb, ltb-true, ltb-false}
-use Rattle.bytes.specs.Bytes.{AreBytes, le16, le32, bytes16, bytes32, signed16, unsigned16}
+use Rattle.octets.specs.Bytes.{AreBytes, le16, le32, bytes16, bytes32, signed16, unsigned16}
 
 -- ---- written and read
 
