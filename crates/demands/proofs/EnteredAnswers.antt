@@ -9,10 +9,10 @@ use Rattle.number.proofs.Sizes.{impossible}
 use Rattle.quantity.specs.Limits.{inside, recordedPressure}
 use Rattle.settings.specs.Settings.{checked}
 use Rattle.settings.specs.declared.Settings.{Settings}
-use Rattle.wind.specs.declared.TrueWind.the-variants.{Blows, OutsideLimits}
+use Rattle.wind.specs.declared.TrueWind.the-variants.{Blows}
 use Rattle.vapour.proofs.TableExists.{the-table}
 use Rattle.station.specs.Source.{heard}
-use Rattle.station.specs.Questions.{Asked, pressure, tendency, wind, humidity, question, Reply, Answers, Tells}
+use Rattle.station.specs.Questions.{Asked, pressure, tendency, wind, humidity, question, Reply, Tells}
 use Rattle.station.specs.Told.{Change}
 use Rattle.station.specs.declared.PressureAnswer.the-variants as pressed
 use Rattle.station.specs.declared.TendencyAnswer.the-variants as changed

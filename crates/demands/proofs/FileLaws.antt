@@ -9,7 +9,7 @@ use lib.Dec.{ltb}
 use lib.IntN.{ℤ}
 use lib.ListN.{length, take, drop, length-take}
 use lib.Seq.{take-append-seam}
-use Rattle.number.specs.Refusal.{Numbered, numbered, Answer, refused, given, answer}
+use Rattle.number.specs.Refusal.{numbered, Answer, refused, given, answer}
 use Rattle.number.proofs.Sizes.{impossible}
 use Rattle.octets.specs.Bytes.{AreBytes}
 use Rattle.octets.specs.Lent.{sized, leftBy}
@@ -19,12 +19,11 @@ use Rattle.watchfile.specs.declared.Record.{Record}
 use Rattle.watchfile.proofs.DewRules.{the-rule}
 use Rattle.reader.specs.Read.{HandsBack}
 use Rattle.reader.specs.declared.FileRead.{FileRead}
-use Rattle.reader.specs.declared.Verdict.{Verdict}
-use Rattle.reader.specs.declared.Verdict.the-variants.{Good, Broken}
+use Rattle.reader.specs.declared.Verdict.the-variants.{Good}
 use Rattle.reader.proofs.VerdictLaws.{verdict-by}
 use Rattle.writer.specs.Write.{Wrote, writtenAs}
 use Rattle.writer.specs.declared.Written.{Written}
-use Rattle.writer.specs.declared.Written.the-variants.{Done, BreaksRules, TooShort}
+use Rattle.writer.specs.declared.Written.the-variants.{Done}
 use Rattle.writer.proofs.RoundTrips.{read-then-written, written-then-read}
 use Rattle.writer.proofs.SingleAnswers.{case-of, case-back}
 use Rattle.listing.specs.Listing.{listingOf, listing, Lists}

@@ -1,24 +1,23 @@
 -- A question that is answered with figures has found every minute that it reads; so one that reads a missing minute is refused, and
 -- the minute stays missing. Assumes nothing.
 use mathlib.Core.Path.{_≡_, refl, sym, ap, subst, _∙_}
-use mathlib.Core.Bool.{Bool, true, false, not, _&&_, _||_, cond}
+use mathlib.Core.Bool.{Bool, true, false, _||_}
 use mathlib.Core.List.{List, [], _∷_, _++_}
-use Prim.Native.Nat.{ℕ, _-_, _<_, _≤_}
+use Prim.Native.Nat.{ℕ, _-_}
 use lib.Dec.{eqb, ltb}
 use lib.IntN.{ℤ}
-use borrow.Author.Tests.{eqb-true, ltb-true, ltb-false, le-ltb, not-false}
-use Rattle.number.specs.Refusal.{Numbered, Test, Answer, refused, given}
+use borrow.Author.Tests.{eqb-true, ltb-true, not-false}
+use Rattle.number.specs.Refusal.{Numbered, Answer, refused, given}
 use Rattle.number.proofs.Sizes.{and-true, impossible, never}
 use Rattle.quantity.specs.Limits.{threeHours}
 use Rattle.settings.specs.declared.Settings.{Settings}
-use Rattle.cell.specs.Cells.{CHANNELS, Recall, absent, recalled, recalledAs}
+use Rattle.cell.specs.Cells.{CHANNELS, absent, recalledAs}
 use Rattle.cell.specs.declared.Recalled.{Recalled}
 use Rattle.cell.specs.declared.Recalled.the-variants.{Missing, Kept}
 use Rattle.store.specs.Block.{recallOf}
-use Rattle.store.specs.History.{isPresent, store-of}
+use Rattle.store.specs.History.{isPresent}
 use Rattle.store.proofs.HistoryLaws.{store-remembers}
 use Rattle.store.proofs.StoreTheorems.{stays-absent-on}
-use Rattle.vapour.specs.Vapour.{IsTable}
 use Rattle.vapour.proofs.TableExists.{the-table}
 use Rattle.station.specs.Source.{Source, heard}
 use Rattle.station.specs.Questions.{Asked, pressure, tendency, wind, humidity, question, Reply, isIn, reads, Answers, Tells}

@@ -9,7 +9,6 @@ use Prim.Native.Nat.{ℕ}
 use native.Mathlib.Omega.{arith}
 use lib.IntN.{pos, negℤ, natAbs}
 use lib.ListN.{replicate}
-use denote.Ref.{RefT}
 use Rattle.number.specs.Refusal.{Answer, given}
 use Rattle.number.proofs.Sizes.{impossible}
 use Rattle.settings.specs.Settings.{checked}
@@ -27,6 +26,7 @@ use Rattle.station.specs.Told.{Change}
 use Rattle.heard.proofs.StoreLaws.{by-messages}
 use Rattle.station.proofs.SingleAnswers.{one-reply}
 use Rattle.demands.specs.EmptyPrograms.{Program, Meets, Use, blockOf, openingIn, hearingIn, answerIn, changeOf, changeIn, Refuses, Constant, StoresNothing, StoresOnlyTheFirst, InventsTheCount}
+use Rattle.demands.proofs.WorkingLaws.{lent}
 use Rattle.demands.proofs.WatchAnswers as watch
 use Rattle.demands.proofs.WatchAnswers.{ship, good, others, at-100, at-280, quiet, busier, falling, pressed, missing, changed, blown, moist}
 
@@ -44,10 +44,6 @@ pub record NoEmptyProgram (p : Program) : Type 0 where
   pub stores-more-than-the-first : StoresOnlyTheFirst p → ⊥
   -- "one that invents the absent count"
   pub counts-the-absent : InventsTheCount p → ⊥
-
--- words lent, wherever they lie
-abbrev lent : List ℕ → RefT (List ℕ)
-lent s = record { ptr = (0, 0); name = 0; now = s }
 
 -- the ship's store, opened where all words were 0, after these messages, asked for this minute
 memory : List ℕ

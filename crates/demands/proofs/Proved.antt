@@ -4,7 +4,7 @@ use mathlib.Core.Bool.{Bool, true, false, cond}
 use mathlib.Core.List.{List, [], _∷_}
 use mathlib.Core.Logic.{_↔_}
 use Prim.Native.Nat.{ℕ}
-use denote.Ref.{RefT, at-last}
+use denote.Ref.{at-last}
 use lib.IntN.{ℤ}
 use lib.ListN.{length}
 use Rattle.number.specs.Refusal.{Numbered, Test, Answer, refused, given, answer, Holds, First}
@@ -24,13 +24,12 @@ use Rattle.store.specs.declared.Hearing.{Hearing}
 use Rattle.store.specs.declared.Hearing.the-variants.{Heard, Refused, NotLater, NoStore}
 use Rattle.store.proofs.StoreTheorems.{refused-changes-nothing}
 use Rattle.station.specs.Source.{heard}
-use Rattle.station.specs.Questions.{Asked, question, Reply, Tells}
+use Rattle.station.specs.Questions.{question}
 use Rattle.station.proofs.SingleAnswers.{one-reply}
-use Rattle.heard.specs.Feeds.{SameSettings, fedTo, Replaced, wouldKeep, messageTests}
+use Rattle.heard.specs.Feeds.{fedTo, wouldKeep, messageTests}
 use Rattle.heard.proofs.RefusalsInOrder.{question-refused, message-by-messages}
 use Rattle.heard.proofs.FedLaws.{same-fed, fed-again}
 use Rattle.heard.proofs.ReplacedLaws.{same-replaced}
-use Rattle.heard.proofs.SettingsAlike.{same-store}
 use Rattle.octets.specs.Lent.{sized}
 use Rattle.octets.proofs.LentLaws.{sized-refused}
 use Rattle.watchfile.specs.Format.{DewRule, reading, writing, writeTests}
@@ -44,9 +43,9 @@ use Rattle.reader.proofs.RefusalsInOrder.{read-refused}
 use Rattle.listing.specs.Listing.{listingOf}
 use Rattle.listing.proofs.RefusalsInOrder.{list-refused}
 use Rattle.listing.proofs.ListTheorems as listed
-use Rattle.demands.specs.Working.{Opens, Hears, Working, Replies, WritesFile}
+use Rattle.demands.specs.Working.{Opens, Hears, Working, WritesFile}
 use Rattle.demands.specs.Demands.{Demand1, Demand2, Demand3}
-use Rattle.demands.proofs.WorkingLaws.{open-answer, open-block, hear-answer, hear-block, asks-told, asks-leaves, good, block, replies, replies-on}
+use Rattle.demands.proofs.WorkingLaws.{lent, open-answer, open-block, hear-answer, hear-block, asks-leaves, good, block, replies, replies-on}
 use Rattle.demands.proofs.FileLaws.{read-is, write-is, list-is, file-again, records-again, listed-as}
 use Rattle.demands.proofs.EnteredAnswers.{recorded}
 use Rattle.demands.proofs.MissingLaws.{missing, recall-missing, answer-missing}
@@ -108,11 +107,8 @@ some-answer (t ∷ ts) all e = go (t .holds) (all .0) (some-answer ts (all .1) e
     go true now later = now
     go false now later = later
 
-lent : List ℕ → RefT (List ℕ)
-lent s = record { ptr = (0, 0); name = 0; now = s }
-
 goes-on : (b m : List ℕ) → (h : Hearing) × (b′ : List ℕ) × Hears b m h b′
-unfolding hearing lent
+unfolding hearing
 goes-on b m =
     let a = some-answer (unopened b ∷ hearTests b m) (
       (NoStore, refl),

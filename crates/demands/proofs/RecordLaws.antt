@@ -1,19 +1,19 @@
 -- Every answer of a store that was opened makes a record that the watch file takes: the minute is one that may be asked, and the
 -- figures are worked from readings within their limits. Assumes nothing.
 use mathlib.Core.Path.{_≡_, refl, sym, ap, subst, _∙_}
-use mathlib.Core.Bool.{Bool, true, false, not, _&&_, cond}
-use mathlib.Core.List.{List, [], _∷_}
-use Prim.Native.Nat.{ℕ, _+_, _-_, _*_, _≤_, _<_}
+use mathlib.Core.Bool.{true, false, cond}
+use mathlib.Core.List.{List, []}
+use Prim.Native.Nat.{ℕ, _-_, _<_}
 use native.Mathlib.Omega.{arith}
 use lib.Dec.{eqb, leb, ltb, lit<}
 use lib.IntN.{ℤ, natAbs, _-ℤ_}
 use borrow.Author.Tests.{ltb-false, le-leb, lt-ltb, not-false}
 use Rattle.number.specs.Refusal.{given, answer}
-use Rattle.quantity.specs.Limits.{lastMinute, threeHours, inside, pressureLimits, wheelhouse, bulb, recordedPressure}
+use Rattle.number.proofs.Sizes.{both}
+use Rattle.quantity.specs.Limits.{lastMinute, threeHours, inside, pressureLimits, wheelhouse, recordedPressure}
 use Rattle.quantity.specs.declared.MetresPerSecond.{MetresPerSecond}
 use Rattle.quantity.specs.declared.Degrees.{Degrees}
 use Rattle.settings.specs.Settings.{checked}
-use Rattle.settings.specs.Settings as settings
 use Rattle.settings.specs.declared.Settings.{Settings}
 use Rattle.store.specs.History.{history, remembered, isPresent}
 use Rattle.pressure.proofs.PressureTheorems.{sea-level-recorded}
@@ -35,9 +35,6 @@ use Rattle.watchfile.specs.declared.Body.{Body}
 use Rattle.watchfile.specs.declared.Body.the-variants.{Pressure, Tendency}
 use Rattle.desk.specs.Records.{pressureRecord, tendencyRecord, windRecord, humidityRecord}
 use Rattle.demands.proofs.RecordedFigures.{pressure-taken, tendency-taken, wind-taken, humidity-taken}
-
-both : {a b : Bool} → a ≡ true → b ≡ true → (a && b) ≡ true
-both p q = rw (p, q)
 
 -- a minute that may be asked may be recorded
 minute-right : (m kind : ℕ) → ltb lastMinute m ≡ false → 0 < kind → cond (eqb kind 2) (leb threeHours m) true ≡ true → minuteRight 0 kind m ≡ true

@@ -1,14 +1,14 @@
 -- Every answer that the formulas give makes a body that the writer takes: its figures lie within the file's limits, or are those of the
 -- file's rules. Assumes nothing.
 use mathlib.Core.Path.{_≡_, refl}
-use mathlib.Core.Bool.{Bool, true, _&&_}
+use mathlib.Core.Bool.{Bool, true}
 use Prim.Native.Nat.{ℕ, zero, suc, _≤_}
 use native.Mathlib.Omega.{arith}
 use lib.IntN.{ℤ, pos, negsuc, natAbs, _-ℤ_}
 use borrow.Author.Tests.{le-leb, eq-eqb, ne-eqb}
 use Rattle.number.specs.Whole.{within}
 use Rattle.number.specs.Refusal.{given}
-use Rattle.number.proofs.Sizes.{impossible}
+use Rattle.number.proofs.Sizes.{both, impossible}
 use Rattle.quantity.specs.Limits.{inside, pressureLimits, wheelhouse, recordedPressure, pressureChange, minutesBetween}
 use Rattle.quantity.proofs.LimitLaws.{either-side}
 use Rattle.quantity.specs.declared.MetresPerSecond.{MetresPerSecond}
@@ -32,9 +32,6 @@ use Rattle.humidity.proofs.HumidityTheorems.{writable}
 use Rattle.watchfile.specs.Rules.{pressureRight, changeRight, absentRight, speedRight, directionRight, eRight, saturationRight, deficitRight, relativeRight, dewRight}
 use Rattle.watchfile.specs.Format.{DewRule, kept, bodyRight}
 use Rattle.watchfile.specs.declared.Body.the-variants.{Pressure, Tendency, Wind, Humidity}
-
-both : {a b : Bool} → a ≡ true → b ≡ true → (a && b) ≡ true
-both p q = rw (p, q)
 
 -- a pressure as a file holds it has no sign
 unsigned : (z : ℤ) → inside recordedPressure z ≡ true → inside recordedPressure (pos (natAbs z)) ≡ true

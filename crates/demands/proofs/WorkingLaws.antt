@@ -3,7 +3,7 @@
 use mathlib.Core.Path.{_≡_, sym, ap, subst, _∙_}
 use mathlib.Core.List.{List, [], _∷_}
 use Prim.Native.Nat.{ℕ}
-use denote.Ref.{now}
+use denote.Ref.{RefT, now}
 use Rattle.number.specs.Refusal.{given}
 use Rattle.settings.specs.Settings.{checked, checkedAs}
 use Rattle.settings.specs.declared.Settings.{Settings}
@@ -19,6 +19,10 @@ use Rattle.heard.specs.Feeds.{SameSettings}
 use Rattle.heard.proofs.StoreLaws.{by-messages}
 use Rattle.heard.proofs.SettingsAlike.{same-store}
 use Rattle.demands.specs.Working.{Opens, Hears, Asks, Working, Replies}
+
+-- words lent, wherever they lie
+abbrev pub lent : List ℕ → RefT (List ℕ)
+lent s = record { ptr = (0, 0); name = 0; now = s }
 
 -- ---- single calls
 

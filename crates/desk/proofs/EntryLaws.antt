@@ -7,7 +7,7 @@ use lib.IntN.{ℤ, pos, negℤ, natAbs}
 use borrow.Author.Tests.{le-leb, lt-leb}
 use Rattle.number.specs.Whole.{within}
 use Rattle.number.specs.declared.Kept.{Kept}
-use Rattle.number.proofs.Sizes.{within-size}
+use Rattle.number.proofs.Sizes.{both, within-size}
 use Rattle.number.proofs.SingleAnswers.{kept-by}
 use Rattle.quantity.specs.declared.Hectopascals.{Hectopascals}
 use Rattle.quantity.specs.declared.MetresPerSecond.{MetresPerSecond}
@@ -34,9 +34,6 @@ none b r h = rw h
 
 some : (b : Bool) (r : Record) → b ≡ true → entry.Record r ≡ entered b r
 some b r h = rw h
-
-pub both : {a b : Bool} → a ≡ true → b ≡ true → (a && b) ≡ true
-both p q = rw (p, q)
 
 -- ---- single fields
 

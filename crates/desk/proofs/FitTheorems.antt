@@ -8,7 +8,7 @@ use lib.Dec.{leb, eqb}
 use lib.IntN.{ℤ, pos, negsuc, negℤ, natAbs}
 use borrow.Author.Tests.{le-leb, leb-true, eqb-true}
 use Rattle.number.specs.Whole.{within}
-use Rattle.number.proofs.Sizes.{and-true, within-size, natural}
+use Rattle.number.proofs.Sizes.{and-true, both, natural, within-size}
 use Rattle.quantity.specs.Limits.{inside, recordedPressure, highestWind, degrees, minutesBetween}
 use Rattle.quantity.proofs.LimitLaws.{up-to}
 use Rattle.quantity.specs.declared.Hectopascals.{Hectopascals}
@@ -28,7 +28,7 @@ use Rattle.writer.proofs.RightLaws.{change-fits, dew-fits}
 use Rattle.desk.specs.Records.{pressureRecord, tendencyRecord, windRecord, humidityRecord}
 use Rattle.desk.specs.Entries.{pressureEntry, tendencyEntry, windEntry, humidityEntry}
 use Rattle.desk.specs.declared.Entry.the-variants as entry
-use Rattle.desk.proofs.EntryLaws.{both, pressure-some, tendency-some, wind-some, humidity-some}
+use Rattle.desk.proofs.EntryLaws.{pressure-some, tendency-some, wind-some, humidity-some}
 
 in-word : (n : ℕ) (z : ℤ) → pos n ≡ z → n ≤ 65535 → within (pos 0) (pos 65535) z ≡ true
 in-word n z e h = subst (λ (x : ℤ). within (pos 0) (pos 65535) x ≡ true) e (both (le-leb 0 n (omega arith)) (le-leb n 65535 h))

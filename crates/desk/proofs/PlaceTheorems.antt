@@ -12,7 +12,7 @@ use lib.ListN.{length, take, length-append}
 use lib.Seq.{take-length}
 use borrow.Author.Tests.{ltb-true, lt-ltb, le-ltb}
 use Rattle.number.specs.Refusal.{Answer, refused, given, answer, Numbered, numbered}
-use Rattle.number.proofs.Sizes.{and-true}
+use Rattle.number.proofs.Sizes.{and-true, both}
 use Rattle.quantity.specs.Limits.{lastMinute, threeHours}
 use Rattle.octets.specs.Bytes.{AreBytes}
 use Rattle.octets.specs.Lent.{short}
@@ -27,7 +27,6 @@ use Rattle.writer.proofs.ReadWrittenLaws.{read-right}
 use Rattle.writer.proofs.RoundTrips.{written-then-read}
 use Rattle.desk.specs.Placing.{inserted, placedAs, writingAll, placing, Leaves}
 use Rattle.desk.specs.declared.Placed.{Placed}
-use Rattle.desk.proofs.EntryLaws.{both}
 use Rattle.desk.proofs.InsertLaws.{insert-later, insert-same, insert-before, by-rank}
 
 -- ---- the records

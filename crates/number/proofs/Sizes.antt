@@ -63,6 +63,9 @@ pub and-true : (a b : Bool) → (a && b) ≡ true → (a ≡ true) × (b ≡ tru
 and-true true b e = (refl, e)
 and-true false b e = never e
 
+pub both : {a b : Bool} → a ≡ true → b ≡ true → (a && b) ≡ true
+both p q = rw (p, q)
+
 -- no larger than the larger limit
 pub within-size : (low high z : ℤ) (k : ℕ) → natAbs low ≤ k → natAbs high ≤ k → within low high z ≡ true → natAbs z ≤ k
 within-size low high z k l h e = go low high z l h (and-true (leZ low z) (leZ z high) e)

@@ -20,8 +20,8 @@ use Rattle.wind.specs.declared.TrueWind.the-variants as blown
 use Rattle.wind.proofs.WindTheorems.{single-wind}
 use Rattle.humidity.specs.declared.HumidityFigures.{HumidityFigures}
 use Rattle.humidity.proofs.SingleAnswers.{one-humidity}
-use Rattle.station.specs.Source.{Source, held, inMetresPerSecond, inKnots, inDegrees}
-use Rattle.station.specs.Questions.{Asked, question, Reply, AnsweredBy, TellsOf, noStore, foreignTo, TendencyRule, dryAt, wetAt, stationAt}
+use Rattle.station.specs.Source.{Source, held}
+use Rattle.station.specs.Questions.{Asked, question, Reply, AnsweredBy, TellsOf, noStore, foreignTo, TendencyRule}
 use Rattle.station.specs.Questions as asked
 use Rattle.station.specs.Told.{Change, refusalOf, numberedAs, pressureAs, tendencyAs, windAs, humidityAs}
 use Rattle.station.specs.declared.QuestionRefusal.{QuestionRefusal}

@@ -1,19 +1,20 @@
 -- An answer rests on nothing but what its question reads: where two sources agree on that, what the one allows the other allows.
 -- Test by test, and figure by figure. Assumes nothing.
 use mathlib.Core.Path.{_≡_, refl, ap, _∙_}
-use mathlib.Core.Bool.{Bool, true, false, not, _&&_, _||_}
+use mathlib.Core.Bool.{Bool, true, false, not, _||_}
 use mathlib.Core.List.{List, [], _∷_}
 use Prim.Native.Nat.{ℕ, _-_}
 use lib.Dec.{eqb}
 use lib.IntN.{ℤ, _-ℤ_}
 use borrow.Author.Tests.{eq-eqb}
+use Rattle.number.proofs.Sizes.{both}
 use Rattle.quantity.specs.Limits.{threeHours}
 use Rattle.quantity.specs.declared.BarometerUnit.{BarometerUnit}
 use Rattle.cell.specs.Cells.{Recall}
 use Rattle.store.specs.History.{isPresent}
 use Rattle.pressure.specs.Pressure.{outside, seaLevel, stationPressure, tenthsIn}
 use Rattle.pressure.proofs.PressureTheorems.{Alike, alike-outside, alike-sea-level, alike-station}
-use Rattle.station.specs.Source.{Source, first, inCelsius, inMetresPerSecond, inKnots, inDegrees, readingAt}
+use Rattle.station.specs.Source.{Source, first, inCelsius, readingAt}
 use Rattle.station.specs.Questions.{Asked, question, Reply, isIn, reads, Answers, Tells, test, tooLate, noThreeHours, missingAt, outsideAt, seaLevelAt, stationAt, pressureTests, PressureRule, tendencyTests, TendencyRule, windTests, WindRule, humidityTests, HumidityRule}
 use Rattle.station.specs.Questions as asked
 use Rattle.station.specs.Told.{Change, pressureAs, tendencyAs, windAs, humidityAs}
@@ -77,9 +78,6 @@ the-other m j = rw (eq-eqb j j refl) (either (eqb j m))
     either : (b : Bool) → (b || true) ≡ true
     either true = refl
     either false = refl
-
-both : {a b : Bool} → a ≡ true → b ≡ true → (a && b) ≡ true
-both p q = rw (p, q)
 
 module _ (S S′ : Source) (m : ℕ) where
   pressure-tells : Agree asked.pressure S S′ m → (r : PressureAnswer) (late : Bool) → tooLate m .holds ≡ late

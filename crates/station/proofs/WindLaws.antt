@@ -1,18 +1,16 @@
 -- The four numbers of the wind: what is kept of channels 2 and 3 is within the limits of the true wind. Assumes nothing.
 use mathlib.Core.Path.{_≡_, refl, subst}
-use mathlib.Core.Bool.{Bool, true, _&&_}
+use mathlib.Core.Bool.{true}
 use mathlib.Core.List.{List}
 use Prim.Native.Nat.{ℕ}
 use lib.Dec.{lit<}
+use Rattle.number.proofs.Sizes.{both}
 use Rattle.store.specs.Block.{recallOf}
 use Rattle.store.specs.History.{isPresent}
 use Rattle.wind.specs.Answer.{withinLimits, IsWind}
 use Rattle.wind.specs.declared.TrueWind.{TrueWind}
 use Rattle.station.specs.Source.{inMetresPerSecond, inKnots, inDegrees}
 use Rattle.station.proofs.KeptLaws.{first-inside, second-inside}
-
-both : {a b : Bool} → a ≡ true → b ≡ true → (a && b) ≡ true
-both p q = rw (p, q)
 
 pub kept-within : (s : List ℕ) (m : ℕ) → isPresent (recallOf s 2 m) ≡ true → isPresent (recallOf s 3 m) ≡ true
     → withinLimits (inDegrees (recallOf s 3 m)) (inKnots (recallOf s 3 m)) (inMetresPerSecond (recallOf s 2 m)) (inDegrees (recallOf s 2 m)) ≡ true

@@ -120,7 +120,8 @@ humidityTests more table S m =
 abbrev pub HumidityRule : Source → ℕ → HumidityFigures → Type 0
 HumidityRule S m h = IsHumidity (dryAt S m) (wetAt S m) (stationAt S m) (S .psychrometer) h
 
--- 7: the station pressure or A is outside its limits, which happens only in a block that no opening made (`never-foreign`).
+-- 7: the station pressure or A is outside its limits, which happens only in a block that has the mark of a store and that
+-- no opening made (`never-foreign`).
 abbrev pub foreign : Source → ℕ → List (Test Numbered)
 foreign S m = test 7 [] (not (inside recordedPressure (stationAt S m) && inside settings.psychrometer (S .psychrometer))) ∷ []
 

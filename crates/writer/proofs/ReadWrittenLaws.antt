@@ -1,7 +1,7 @@
 -- A file that is read without refusal is the file of its records, and these may be written: where every field is whole and right,
 -- the bytes of what it says are the bytes it has. By induction on the records left. Assumes nothing.
 use mathlib.Core.Path.{_≡_, refl, sym, ap, _∙_, subst}
-use mathlib.Core.Bool.{Bool, true, _&&_}
+use mathlib.Core.Bool.{true}
 use mathlib.Core.List.{List, [], _∷_, _++_, append-assoc}
 use Prim.Native.Nat.{ℕ, zero, suc, _+_, _*_, _≤_}
 use native.Mathlib.Omega.{arith}
@@ -13,7 +13,7 @@ use lib.Seq.{drop-cons, drop-drop, drop-length}
 use borrow.Author.Tests.{leb-true, eqb-true}
 use Rattle.number.specs.Refusal.{given}
 use Rattle.number.proofs.RefusalLaws.{given-is}
-use Rattle.number.proofs.Sizes.{and-true}
+use Rattle.number.proofs.Sizes.{and-true, both}
 use Rattle.octets.specs.Bytes.{AreBytes, le16, le32, bytes16, bytes32, signed16, unsigned16}
 use Rattle.watchfile.specs.Rules.{kindRight, sizeOf, rank, minuteRight}
 use Rattle.watchfile.specs.Fields.{Field, fieldTests, placed}
@@ -44,9 +44,6 @@ pair s j h = bytes16-back (getD s j 0) (getD s (suc j) 0) (h j)
 signed-pair : (s : List ℕ) (j : ℕ) → AreBytes s → bytes16 (unsigned16 (signed16 (getD s j 0 + 256 * getD s (suc j) 0))) ≡ getD s j 0 ∷ getD s (suc j) 0 ∷ []
 signed-pair s j h =
     ap bytes16 (unsigned-is (getD s j 0 + 256 * getD s (suc j) 0) (omega (arith, h j, h (suc j)))) ∙ pair s j h
-
-both : (a b : Bool) → a ≡ true → b ≡ true → (a && b) ≡ true
-both a b p q = rw (p, q)
 
 -- the head, and behind it the rows and bodies of the records
 file-back : (s : List ℕ) (rs : List Record) (n : ℕ) → 4 ≤ length s → getD s 0 0 ≡ 0x57 → getD s 1 0 ≡ 0x54 → getD s 2 0 ≡ 1 → getD s 3 0 ≡ n → length rs ≡ n
@@ -83,7 +80,7 @@ module _ (rule : ℕ → ℤ) where
       record {
         kind = refl;
         bytes = ap (λ (y : List ℕ). (y ++ (getD s 2 0 ∷ [])) ++ drop 3 s) (signed-pair s 0 h) ∙ these-then 3 s 0 (f .2 .0);
-        right = both _ _ (f .1) (f .2 .1);
+        right = both (f .1) (f .2 .1);
         whole = f .2 .0;
       }
 
@@ -95,7 +92,7 @@ module _ (rule : ℕ → ℤ) where
             ap (λ (y : List ℕ). (y ++ bytes16 (le16 s 2)) ++ drop 4 s) (pair s 0 h)
             ∙ ap (λ (y : List ℕ). (getD s 0 0 ∷ getD s 1 0 ∷ y) ++ drop 4 s) (pair s 2 h)
             ∙ these-then 4 s 0 (f .2 .0);
-        right = both _ _ (f .1) (f .2 .1);
+        right = both (f .1) (f .2 .1);
         whole = f .2 .0;
       }
 
@@ -109,7 +106,7 @@ module _ (rule : ℕ → ℤ) where
             ∙ ap (λ (y : List ℕ). (these s 0 2 ++ (y ++ (bytes16 (le16 s 4) ++ these s 6 3))) ++ drop 9 s) (pair s 2 h)
             ∙ ap (λ (y : List ℕ). (these s 0 4 ++ (y ++ these s 6 3)) ++ drop 9 s) (pair s 4 h)
             ∙ these-then 9 s 0 (f .2 .2 .2 .2 .0);
-        right = both _ _ (both _ _ (both _ _ (both _ _ (f .1) (f .2 .1)) (f .2 .2 .1)) (f .2 .2 .2 .1)) (f .2 .2 .2 .2 .1);
+        right = both (both (both (both (f .1) (f .2 .1)) (f .2 .2 .1)) (f .2 .2 .2 .1)) (f .2 .2 .2 .2 .1);
         whole = f .2 .2 .2 .2 .0;
       }
 
@@ -195,7 +192,7 @@ module _ (rule : ℕ → ℤ) where
               ∙ row-back (drop row s) next before (x .body) (bytes-drop s row are) (r .0) (found .kind);
           bodies = ap (λ (y : List ℕ). bodyBytes (x .body) ++ y) (ih .bodies ∙ sym (drop-drop (sizeOf k) at s)) ∙ found .bytes;
           right = (
-            both (minuteRight before (kindOf (x .body)) (x .minute)) (bodyRight rule (x .body)) (ap (λ (j : ℕ). minuteRight before j (le32 (drop row s) 4)) (found .kind) ∙ r .0 .2 .2 .2 .1) (found .right),
+            both {a = minuteRight before (kindOf (x .body)) (x .minute)} {b = bodyRight rule (x .body)} (ap (λ (j : ℕ). minuteRight before j (le32 (drop row s) 4)) (found .kind) ∙ r .0 .2 .2 .2 .1) (found .right),
             subst (λ (j : ℕ). AllRight rule (rank (le32 (drop row s) 4) j) xs) (sym (found .kind)) (ih .right),
           );
           count = ap suc (ih .count);

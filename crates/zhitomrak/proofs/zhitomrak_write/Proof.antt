@@ -1,8 +1,7 @@
 -- `zhitomrak_write` meets its contract: the writer writes the records handed over. Assumes nothing.
-use mathlib.Core.Path.{sym, ap, _∙_}
+use mathlib.Core.Path.{ap, _∙_}
 use mathlib.Core.List.{map}
 use lib.ListN.{length}
-use Rattle.number.specs.Refusal.{Answer, Numbered}
 use Rattle.octets.specs.Lent.{sized, leftBy}
 use Rattle.filed.specs.Files.{writeIn}
 use Rattle.handed.specs.Handed.{recordOf}
