@@ -19,8 +19,13 @@ pub enum Refused {
     NotFinite,
     /// 7: outside limits.
     OutsideLimits,
-    /// 8: not later than the channel's newest.
-    NotLater,
+    /// 8: "minute equal to the newest" of its channel.
+    Repeated,
+    /// 19: "minute earlier", and "19 stands directly after 8".
+    Late {
+        /// The minutes from the message's to the channel's newest, at least 1.
+        minutes: u32,
+    },
     /// 9: a setting other than the certificate outside limits.
     Setting,
     /// 10: certificate breaks its rules.
@@ -59,14 +64,14 @@ pub enum Refused {
         /// field is cut short, or the first extra byte."
         place: usize,
     },
-    /// 255, which document 01 does not have: memory that was never opened is
+    /// 255, which the documents do not have: memory that was never opened is
     /// asked or told something.
     NoStore,
 }
 
 impl Refused {
-    /// The number that document 01 gives this refusal; 255 for the one that it
-    /// does not have.
+    /// The number that the documents give this refusal; 255 for the one that they
+    /// do not have.
     pub const fn number(self) -> u8 {
         match self {
             Refused::MessageLength => 1,
@@ -76,7 +81,8 @@ impl Refused {
             Refused::MinuteTooLate => 5,
             Refused::NotFinite => 6,
             Refused::OutsideLimits => 7,
-            Refused::NotLater => 8,
+            Refused::Repeated => 8,
+            Refused::Late { .. } => 19,
             Refused::Setting => 9,
             Refused::Certificate => 10,
             Refused::Absent { .. } => 11,
@@ -92,11 +98,13 @@ impl Refused {
     }
 }
 
-/// The refusal as a line: `refused 8`, `refused 11 0 220`, `refused 18 at 41`.
+/// The refusal as a line: `refused 8`, `refused 19 60`, `refused 11 0 220`,
+/// `refused 18 at 41`.
 impl fmt::Display for Refused {
     fn fmt(&self, line: &mut fmt::Formatter<'_>) -> fmt::Result {
         write!(line, "refused {}", self.number())?;
         match self {
+            Refused::Late { minutes } => write!(line, " {minutes}"),
             Refused::Absent { channel, minute } => write!(line, " {channel} {minute}"),
             Refused::OutsideCertificate { minute } => write!(line, " {minute}"),
             Refused::Record { index } => write!(line, " {index}"),
@@ -122,7 +130,8 @@ mod tests {
             (Refused::MinuteTooLate, "refused 5"),
             (Refused::NotFinite, "refused 6"),
             (Refused::OutsideLimits, "refused 7"),
-            (Refused::NotLater, "refused 8"),
+            (Refused::Repeated, "refused 8"),
+            (Refused::Late { minutes: 60 }, "refused 19 60"),
             (Refused::Setting, "refused 9"),
             (Refused::Certificate, "refused 10"),
             (Refused::Absent { channel, minute }, "refused 11 4 220"),

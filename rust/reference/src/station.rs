@@ -41,8 +41,8 @@ impl Store {
         })
     }
 
-    /// Keeps the message's reading, or the first of refusals 1 to 8 whose reason
-    /// holds, and then nothing has changed.
+    /// Keeps the message's reading, or the first of refusals 1 to 8 and 19 whose
+    /// reason holds, and then nothing has changed.
     #[inline]
     pub fn hear(&mut self, message: &[u8]) -> Result<(), Refused> {
         let message::Message { minute, reading } =

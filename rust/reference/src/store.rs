@@ -97,14 +97,15 @@ impl<T: Copy + Default> Window<T> {
         }
     }
 
-    /// Keeps the reading of this minute, or refusal 8 and nothing changed: "a
-    /// message must be later than its channel's newest".
+    /// Keeps the reading of this minute, or refusal 8 or 19 and nothing changed:
+    /// "a message must be later than its channel's newest". The first message of a
+    /// channel gets neither.
     ///
     /// A minute "jumped over, or before the channel's first, stays" absent.
     #[inline]
     pub fn accept(&mut self, minute: u32, reading: T) -> Result<(), Refused> {
         let passed = match self.newest {
-            Some(newest) if minute <= newest => return Err(Refused::NotLater),
+            Some(newest) if minute <= newest => return Err(not_later(newest - minute)),
             Some(newest) => minute - newest,
             None => 0,
         };
@@ -140,10 +141,21 @@ impl<T: Copy + Default> Window<T> {
     }
 }
 
+/// The refusal of a message so many minutes before its channel's newest: "8, minute
+/// equal to the newest, and 19, minute earlier, which returns the difference".
+#[inline]
+fn not_later(minutes: u32) -> Refused {
+    match minutes {
+        0 => Refused::Repeated,
+        _ => Refused::Late { minutes },
+    }
+}
+
 #[cfg(test)]
 mod tests {
     use super::*;
-    use std::collections::BTreeMap;
+    use crate::message::LAST_MINUTE;
+    use std::collections::{BTreeMap, BTreeSet};
 
     /// The same rules said with a map of all that was ever accepted.
     #[derive(Default)]
@@ -152,7 +164,10 @@ mod tests {
     impl Log {
         fn accept(&mut self, minute: u32, reading: i16) -> Result<(), Refused> {
             match self.0.last_key_value() {
-                Some((newest, _)) if minute <= *newest => Err(Refused::NotLater),
+                Some((newest, _)) if minute == *newest => Err(Refused::Repeated),
+                Some((newest, _)) if minute < *newest => Err(Refused::Late {
+                    minutes: newest - minute,
+                }),
                 _ => {
                     self.0.insert(minute, reading);
                     Ok(())
@@ -184,12 +199,15 @@ mod tests {
     #[test]
     fn agrees_with_a_log_of_everything() {
         let mut seed = 1;
+        let mut met = BTreeSet::new();
         for _ in 0..20 {
             let (mut window, mut log) = (Window::new(), Log::default());
             let mut minute = draw(&mut seed, 400) as u32;
             for _ in 0..80 {
                 let reading = draw(&mut seed, 1000) as i16;
-                assert_eq!(window.accept(minute, reading), log.accept(minute, reading));
+                let answer = window.accept(minute, reading);
+                assert_eq!(answer, log.accept(minute, reading));
+                met.insert(answer.map_or_else(Refused::number, |()| 0));
                 for asked in minute.saturating_sub(300)..minute + 200 {
                     assert_eq!(window.at(asked), log.at(asked));
                 }
@@ -200,11 +218,15 @@ mod tests {
                 minute = match draw(&mut seed, 12) {
                     0 => minute + 100 + draw(&mut seed, 200) as u32,
                     1 => minute.saturating_sub(draw(&mut seed, 3) as u32),
+                    2 if draw(&mut seed, 4) == 0 => {
+                        minute.saturating_sub(draw(&mut seed, 600) as u32)
+                    }
                     2 => minute + 120 + draw(&mut seed, 16) as u32,
                     _ => minute + 1 + draw(&mut seed, 3) as u32,
                 };
             }
         }
+        assert_eq!(met, BTreeSet::from([0, 8, 19]));
     }
 
     #[test]
@@ -219,15 +241,57 @@ mod tests {
         assert_eq!(window.at(356), Some(9));
     }
 
+    fn late(minutes: u32) -> Result<(), Refused> {
+        Err(Refused::Late { minutes })
+    }
+
     #[test]
     fn not_later_is_refused_and_changes_nothing() {
         let mut window = Window::new();
         window.accept(5, 7i16).unwrap();
-        assert_eq!(window.accept(5, 8), Err(Refused::NotLater));
-        assert_eq!(window.accept(4, 8), Err(Refused::NotLater));
+        assert_eq!(window.accept(5, 8), Err(Refused::Repeated));
+        assert_eq!(window.accept(4, 8), late(1));
+        assert_eq!(window.accept(0, 8), late(5));
+        // A late one is not the newest: the same minute is still the same.
+        assert_eq!(window.accept(5, 8), Err(Refused::Repeated));
         assert_eq!(window.at(5), Some(7));
         assert_eq!(window.at(4), None);
+        assert_eq!(window.at(0), None);
         assert_eq!(window.at(6), None);
+    }
+
+    #[test]
+    fn the_first_message_is_neither_repeated_nor_late() {
+        for minute in [0, 1, 255, LAST_MINUTE] {
+            let mut window = Window::new();
+            assert_eq!(window.accept(minute, 7i16), Ok(()));
+            assert_eq!(window.at(minute), Some(7));
+        }
+    }
+
+    #[test]
+    fn minute_0_can_be_the_newest() {
+        let mut window = Window::new();
+        window.accept(0, 7i16).unwrap();
+        assert_eq!(window.accept(0, 8), Err(Refused::Repeated));
+        assert_eq!(window.accept(1, 9), Ok(()));
+        assert_eq!(window.accept(0, 8), late(1));
+        assert_eq!(window.at(0), Some(7));
+    }
+
+    #[test]
+    fn how_late_is_told_whether_or_not_the_minute_is_kept() {
+        let mut window = Window::new();
+        window.accept(1000, 7i16).unwrap();
+        for minutes in [1, 2, 60, 254, 255, 256, 257, 512, 1000] {
+            assert_eq!(window.accept(1000 - minutes, 8), late(minutes));
+        }
+        window.accept(LAST_MINUTE, 9).unwrap();
+        for minutes in [1, 65_535, 65_536, LAST_MINUTE - 1000, LAST_MINUTE] {
+            assert_eq!(window.accept(LAST_MINUTE - minutes, 8), late(minutes));
+        }
+        assert_eq!(window.accept(LAST_MINUTE, 8), Err(Refused::Repeated));
+        assert_eq!(window.at(LAST_MINUTE), Some(9));
     }
 
     #[test]

@@ -21,6 +21,8 @@ fn a_watch() {
         OPEN,
         "hear 00000000640000000000794400000000\n", // 996.0 hPa at minute 100
         "hear 00000000640000000000794400000000\n",
+        "hear 00000000630000000000794400000000\n", // minute 99
+        "hear 00000000000000000000794400000000\n", // minute 0
         "hear 0000\n",
         "hear \n",
         "hear 01000000640000000000a04100000000\n", // 20.0 °C
@@ -30,7 +32,8 @@ fn a_watch() {
         "tendency 16777216\n",
         "humidity 100\n",
     ];
-    let expected = "open\nheard\nrefused 8\nrefused 1\nrefused 1\nheard\nP 100 9960\n\
+    let expected = "open\nheard\nrefused 8\nrefused 19 1\nrefused 19 100\nrefused 1\nrefused 1\n\
+        heard\nP 100 9960\n\
         refused 11 0 101\nrefused 14\nrefused 5\nrefused 11 4 100\n";
     assert_eq!(answers(&script.concat()), expected);
 }

@@ -180,9 +180,11 @@ fn a_refused_message_changes_nothing() {
     let tries = [
         (ship.tries(0, 301, 1101.0, 0.0), Refused::OutsideLimits),
         (ship.tries(0, 301, f32::NAN, 0.0), Refused::NotFinite),
-        (ship.tries(0, 300, 900.0, 0.0), Refused::NotLater),
-        (ship.tries(0, 299, 900.0, 0.0), Refused::NotLater),
-        // 7 before 8.
+        (ship.tries(0, 300, 900.0, 0.0), Refused::Repeated),
+        (ship.tries(0, 299, 900.0, 0.0), Refused::Late { minutes: 1 }),
+        (ship.tries(0, 0, 900.0, 0.0), Refused::Late { minutes: 300 }),
+        // 7 before 8 and before 19.
+        (ship.tries(0, 300, 1101.0, 0.0), Refused::OutsideLimits),
         (ship.tries(0, 299, 1101.0, 0.0), Refused::OutsideLimits),
         (
             ship.tries(0, LAST_MINUTE + 1, 900.0, 0.0),
@@ -195,6 +197,64 @@ fn a_refused_message_changes_nothing() {
     assert_eq!(ship.store.pressure(300), Ok(10000));
     assert_eq!(ship.store.pressure(301), Err(absent(0, 301)));
     ship.says(0, 301, 1000.0);
+}
+
+#[test]
+fn repeated_and_late_go_by_the_channel_s_own_newest() {
+    let mut ship = Ship::plain();
+    let value = [1000.0, 20.0, 5.0, 10.0, 20.0, 15.0];
+    // Each channel's first message is earlier than what all before it have heard.
+    for (channel, minute) in (0..6).zip([500, 400, 300, 200, 100, 0]) {
+        ship.says(channel, minute, value[usize::from(channel)]);
+    }
+    for (channel, newest) in (0..6).zip([500, 400, 300, 200, 100, 0]) {
+        let value = value[usize::from(channel)];
+        let again = ship.tries(channel, newest, value, 0.0);
+        assert_eq!(again, Err(Refused::Repeated));
+        // Channel 5 has no minute before its newest, 0.
+        for minutes in [1, 50, newest].into_iter().filter(|_| newest > 0) {
+            let late = ship.tries(channel, newest - minutes, value, 0.0);
+            assert_eq!(late, Err(Refused::Late { minutes }));
+        }
+    }
+}
+
+#[test]
+fn a_message_refused_by_1_to_7_is_not_the_newest() {
+    let mut ship = Ship::plain();
+    ship.says(5, 100, 15.0);
+    let later = |change: fn(&mut Vec<u8>)| {
+        let mut bytes = message(5, 200, 15.0, 0.0);
+        change(&mut bytes);
+        bytes
+    };
+    let wrong = [
+        later(|m| m.truncate(15)),
+        later(|m| m[0] = 6),
+        later(|m| m[2] = 1),
+        later(|m| m[1] = 1),
+        later(|m| m[7] = 1),
+        later(|m| m[8..12].copy_from_slice(&f32::NAN.to_le_bytes())),
+        later(|m| m[8..12].copy_from_slice(&50.1f32.to_le_bytes())),
+    ];
+    for (number, bytes) in (1..).zip(wrong) {
+        let answer = ship.store.hear(&bytes).map_err(Refused::number);
+        assert_eq!(answer, Err(number));
+        assert_eq!(ship.tries(5, 100, 15.0, 0.0), Err(Refused::Repeated));
+        let late = Refused::Late { minutes: 1 };
+        assert_eq!(ship.tries(5, 99, 15.0, 0.0), Err(late));
+    }
+    ship.says(5, 101, 15.0);
+}
+
+#[test]
+fn a_message_refused_by_1_to_7_is_no_first_one() {
+    let mut ship = Ship::plain();
+    let outside = ship.tries(4, 200, 50.1, 0.0);
+    assert_eq!(outside, Err(Refused::OutsideLimits));
+    ship.says(4, 0, 20.0);
+    let again = ship.tries(4, 0, 20.0, 0.0);
+    assert_eq!(again, Err(Refused::Repeated));
 }
 
 #[test]
