@@ -13,9 +13,11 @@ static void send(zhitomrak_store *store, uint8_t channel, uint32_t minute, float
     memcpy(message + 4, &minute, 4);
     memcpy(message + 8, &first, 4);
     memcpy(message + 12, &second, 4);
-    uint32_t refused = zhitomrak_hear(store, message, sizeof message);
-    if (refused)
-        printf("channel %u, minute %" PRIu32 ": refused %" PRIu32 "\n", channel, minute, refused);
+    zhitomrak_heard heard = zhitomrak_hear(store, message, sizeof message);
+    if (heard.number == 19)
+        printf("channel %u, minute %" PRIu32 ": refused 19, %" PRIu64 " minutes late\n", channel, minute, heard.late);
+    else if (heard.number)
+        printf("channel %u, minute %" PRIu32 ": refused %" PRIu32 "\n", channel, minute, heard.number);
 }
 
 static void say_refusal(zhitomrak_refusal why)
@@ -54,7 +56,8 @@ int main(void)
     printf("open: %" PRIu32 "\n", zhitomrak_open(&store, settings));
     for (uint32_t minute = 0; minute <= 240; minute++)
         minute_passes(&store, minute);
-    send(&store, 0, 240, 741.9f, 0.0f); /* not later than the newest */
+    send(&store, 0, 240, 741.9f, 0.0f); /* the newest minute again */
+    send(&store, 4, 180, 20.0f, 0.0f); /* a clock that has gone back by an hour */
 
     zhitomrak_pressure_answer missing = zhitomrak_pressure(&store, 70);
     say_refusal(missing.refusal);

@@ -1,9 +1,9 @@
 /* Zhitomrak: a ship's weather station whose every figure is proved. Link libzhitomrak.a (rt staticlib zhitomrak).
  *
  * Each function's promise stands in its comment, is proved for the compiled code's source for all arguments whatever, and allows a
- * single answer. Numbers of refusals are those of document 01, "Numbered refusals"; 0 says that nothing was refused, and
- * ZHITOMRAK_NO_STORE that the block was never opened. A refusal gives no figure: figures beside one are 0. All quantities are whole
- * numbers of the last place that document 01 shows.
+ * single answer. Numbers of refusals are those of document 01, "Numbered refusals", and from 19 on those of document 02; 0 says that
+ * nothing was refused, and ZHITOMRAK_NO_STORE that the block was never opened. A refusal gives no figure: figures beside one are 0.
+ * All quantities are whole numbers of the last place that document 01 shows.
  *
  * What the caller owes, and the library cannot see:
  *   1. A pointer to a store is not null, is aligned for uint64_t, and points to the ZHITOMRAK_WORDS words of a zhitomrak_store that
@@ -41,7 +41,7 @@ typedef struct {
 } zhitomrak_store;
 
 /* What a block that was never opened answers to every message and to every question, and then it stays as it was: zeroed memory, or
- * memory whose openings were all refused. It is none of document 01's numbers. A store is known by a mark in its first word, which
+ * memory whose openings were all refused. It is none of the documents' numbers. A store is known by a mark in its first word, which
  * zhitomrak_open writes there; so other memory is no store either, unless that word of it happens to be the mark. */
 #define ZHITOMRAK_NO_STORE 255u
 
@@ -70,11 +70,18 @@ typedef struct {
  * it answers ZHITOMRAK_NO_STORE. */
 uint32_t zhitomrak_open(zhitomrak_store *store, zhitomrak_settings settings);
 
-/* Hears a message of instruments, 16 bytes: 0, and its reading is kept; or the first of 1 to 8 whose reason holds, and the block
- * stays as it was. 1, not 16 bytes; 2, channel above 5; 3, a byte that must be zero isn't; 4, wet-bulb state not water; 5, minute
- * above 16777215; 6, infinite or not a number; 7, outside limits; 8, not later than the channel's newest. Before all of them:
- * ZHITOMRAK_NO_STORE, the block was never opened, and stays as it was too. */
-uint32_t zhitomrak_hear(zhitomrak_store *store, const uint8_t *message, size_t length);
+/* What hearing a message came to. */
+typedef struct {
+    uint32_t number; /* 0: heard */
+    uint64_t late;   /* of 19: how many minutes the message is earlier than its channel's newest; else 0 */
+} zhitomrak_heard;
+
+/* Hears a message of instruments, 16 bytes: 0, and its reading is kept; or the first of 1 to 8 and 19 whose reason holds, and the
+ * block stays as it was. 1, not 16 bytes; 2, channel above 5; 3, a byte that must be zero isn't; 4, wet-bulb state not water; 5,
+ * minute above 16777215; 6, infinite or not a number; 7, outside limits; 8, the minute is that of the channel's newest; 19, it is
+ * earlier, with the minutes between: 1 to 16777215 in an opened store. A channel's first message gets neither 8 nor 19. Before all
+ * of them: ZHITOMRAK_NO_STORE, the block was never opened, and stays as it was too. */
+zhitomrak_heard zhitomrak_hear(zhitomrak_store *store, const uint8_t *message, size_t length);
 
 /* ---- questions: asking changes nothing; each can also be answered ZHITOMRAK_NO_STORE ---- */
 

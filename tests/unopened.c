@@ -16,7 +16,14 @@ static void expect(const char *what, uint32_t got, uint32_t wanted)
     }
 }
 
-/* A refusal has its number, and nothing else. */
+/* A message's refusal has its number, and no minutes. */
+static void expect_not_heard(const char *what, zhitomrak_heard heard)
+{
+    expect(what, heard.number, ZHITOMRAK_NO_STORE);
+    expect(what, heard.late != 0, 0);
+}
+
+/* A question's refusal has its number, and nothing else. */
 static void expect_refusal(const char *what, zhitomrak_refusal why)
 {
     expect(what, why.number, ZHITOMRAK_NO_STORE);
@@ -31,8 +38,8 @@ static void expect_no_store(void)
     float pressure = 1000.0f;
     uint8_t message[16] = {0};
     memcpy(message + 8, &pressure, 4);
-    expect("a message", zhitomrak_hear(&store, message, 16), ZHITOMRAK_NO_STORE);
-    expect("a message of 15 bytes", zhitomrak_hear(&store, message, 15), ZHITOMRAK_NO_STORE);
+    expect_not_heard("a message", zhitomrak_hear(&store, message, 16));
+    expect_not_heard("a message of 15 bytes", zhitomrak_hear(&store, message, 15));
     for (size_t i = 0; i < sizeof minutes / sizeof minutes[0]; i++) {
         zhitomrak_pressure_answer p = zhitomrak_pressure(&store, minutes[i]);
         zhitomrak_tendency_answer t = zhitomrak_tendency(&store, minutes[i]);

@@ -16,6 +16,14 @@ fn numbered(number: u32) -> Answer {
     }
 }
 
+/// What a message came to: nothing but a refusal has minutes.
+fn heard(told: raw::Heard) -> Answer {
+    match (told.number, told.late) {
+        (0, 0) => Answer::Given([0; 5]),
+        (number, late) => Answer::Refused(number, late as usize, 0),
+    }
+}
+
 /// What a question came to: figures, each of which fits 32 bits, or the refusal with its channel and minute.
 fn asked(why: raw::Refusal, figures: [i64; 5]) -> Answer {
     match (why.number, why.channel as usize, why.minute as usize) {
@@ -84,7 +92,7 @@ impl Both {
         let was = self.proved.clone();
         let a = raw::hear(&mut self.proved, message);
         let b = independent(self.independent.hear(message), |()| [0; 5]);
-        self.same(tally, "blocks, heard", numbered(a), b, &was[..]);
+        self.same(tally, "blocks, heard", heard(a), b, &was[..]);
     }
 
     fn ask(&mut self, tally: &mut Tally, minute: u32) {

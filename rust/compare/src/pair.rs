@@ -71,6 +71,7 @@ impl Chosen {
 
 pub fn proved_refusal(refused: Refused) -> Answer {
     let (a, b) = match refused {
+        Refused::Late { minutes } => (minutes as usize, 0),
         Refused::MissingReading { channel, minute } => (channel as usize, minute as usize),
         Refused::OutsideCertificate { minute } => (minute as usize, 0),
         Refused::BreaksRules { index } => (index, 0),
@@ -83,6 +84,7 @@ pub fn proved_refusal(refused: Refused) -> Answer {
 
 pub fn independent_refusal(refused: Independent) -> Answer {
     let (a, b) = match refused {
+        Independent::Late { minutes } => (minutes as usize, 0),
         Independent::Absent { channel, minute } => (usize::from(channel), minute as usize),
         Independent::OutsideCertificate { minute } => (minute as usize, 0),
         Independent::Record { index } => (index, 0),

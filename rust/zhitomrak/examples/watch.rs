@@ -13,8 +13,12 @@ fn send(store: &mut Store, channel: u8, minute: u32, first: f32, second: f32) {
     message[4..8].copy_from_slice(&minute.to_le_bytes());
     message[8..12].copy_from_slice(&first.to_le_bytes());
     message[12..].copy_from_slice(&second.to_le_bytes());
-    if let Err(refused) = store.hear(&message) {
-        println!("channel {channel}, minute {minute}: {refused}");
+    match store.hear(&message) {
+        Ok(()) => {}
+        Err(Refused::Late { minutes }) => {
+            println!("channel {channel}, minute {minute}: refused 19, {minutes} minutes late")
+        }
+        Err(refused) => println!("channel {channel}, minute {minute}: {refused}"),
     }
 }
 
@@ -62,8 +66,10 @@ fn main() -> Result<(), Refused> {
     for minute in 0..=240 {
         minute_passes(&mut store, minute);
     }
-    // not later than the newest
+    // the newest minute again
     send(&mut store, 0, 240, 741.9, 0.0);
+    // a clock that has gone back by an hour
+    send(&mut store, 4, 180, 20.0, 0.0);
 
     if let Err(Refused::MissingReading { channel, minute }) = store.pressure(70) {
         println!("refused 11, channel {channel}, minute {minute}");

@@ -3,7 +3,7 @@
 
 /// The words of a store's block.
 pub const WORDS: usize = 1588;
-/// What a block that was never opened answers, none of document 01's numbers.
+/// What a block that was never opened answers, none of the documents' numbers.
 pub const NO_STORE: u32 = 255;
 /// The most points of a certificate.
 pub const POINTS: usize = 16;
@@ -26,6 +26,12 @@ pub struct Settings {
     pub psychrometer: i32,
     pub count: u32,
     pub points: [Point; POINTS],
+}
+
+#[repr(C)]
+pub struct Heard {
+    pub number: u32,
+    pub late: u64,
 }
 
 #[repr(C)]
@@ -106,7 +112,7 @@ pub struct Listed {
 
 extern "C" {
     fn zhitomrak_open(store: *mut [u64; WORDS], settings: Settings) -> u32;
-    fn zhitomrak_hear(store: *mut [u64; WORDS], message: *const u8, length: usize) -> u32;
+    fn zhitomrak_hear(store: *mut [u64; WORDS], message: *const u8, length: usize) -> Heard;
     fn zhitomrak_pressure(store: *const [u64; WORDS], minute: u32) -> Pressure;
     fn zhitomrak_tendency(store: *const [u64; WORDS], minute: u32) -> Tendency;
     fn zhitomrak_wind(store: *const [u64; WORDS], minute: u32) -> Wind;
@@ -125,7 +131,7 @@ pub fn open(store: &mut [u64; WORDS], settings: Settings) -> u32 {
 }
 
 #[inline]
-pub fn hear(store: &mut [u64; WORDS], message: &[u8]) -> u32 {
+pub fn hear(store: &mut [u64; WORDS], message: &[u8]) -> Heard {
     unsafe { zhitomrak_hear(store, message.as_ptr(), message.len()) }
 }
 

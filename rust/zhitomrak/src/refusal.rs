@@ -1,4 +1,4 @@
-//! Document 01's numbered refusals, each with what it also returns, and the answer of a block that was never opened.
+//! The documents' numbered refusals, each with what it also returns, and the answer of a block that was never opened.
 
 use std::fmt;
 
@@ -21,8 +21,13 @@ pub enum Refused {
     NotFinite,
     /// 7: outside limits.
     OutsideLimits,
-    /// 8: not later than the channel's newest.
-    NotLater,
+    /// 8: the minute of the channel's newest.
+    Repeated,
+    /// 19, tested directly after 8: a minute earlier than the channel's newest.
+    Late {
+        /// How many minutes earlier, at least 1.
+        minutes: u64,
+    },
     /// 9: a setting other than the certificate outside limits.
     Setting,
     /// 10: the certificate breaks its rules.
@@ -60,14 +65,14 @@ pub enum Refused {
         /// The first byte of the first wrong field, the file's length where a field is cut short, or the first extra byte.
         place: usize,
     },
-    /// 255, none of document 01's numbers: the block was never opened, so there is no store to hear or to ask. A
+    /// 255, none of the documents' numbers: the block was never opened, so there is no store to hear or to ask. A
     /// [`Store`](crate::Store) is opened where it is made and never answers this; the library itself does, of memory that no
     /// opening made.
     NoStore,
 }
 
 impl Refused {
-    /// Document 01's number, or that of [`Refused::NoStore`].
+    /// The documents' number, or that of [`Refused::NoStore`].
     pub const fn number(self) -> u32 {
         match self {
             Refused::NotSixteenBytes => 1,
@@ -77,7 +82,8 @@ impl Refused {
             Refused::MinuteTooLate => 5,
             Refused::NotFinite => 6,
             Refused::OutsideLimits => 7,
-            Refused::NotLater => 8,
+            Refused::Repeated => 8,
+            Refused::Late { .. } => 19,
             Refused::Setting => 9,
             Refused::Certificate => 10,
             Refused::MissingReading { .. } => 11,
@@ -97,6 +103,7 @@ impl fmt::Display for Refused {
     fn fmt(&self, line: &mut fmt::Formatter<'_>) -> fmt::Result {
         write!(line, "refused {}", self.number())?;
         match self {
+            Refused::Late { minutes } => write!(line, " {minutes}"),
             Refused::MissingReading { channel, minute } => write!(line, " {channel} {minute}"),
             Refused::OutsideCertificate { minute } => write!(line, " {minute}"),
             Refused::BreaksRules { index } => write!(line, " {index}"),
@@ -109,11 +116,10 @@ impl fmt::Display for Refused {
 
 impl std::error::Error for Refused {}
 
-/// What an opening or a hearing of this number came to: numbers are 0 to 10 and 255, by the contracts.
+/// The refusal of this number that returns nothing else; of a number that is none, [`Refused::NoStore`].
 #[inline]
-pub(crate) fn numbered(number: u32) -> Result<(), Refused> {
-    Err(match number {
-        0 => return Ok(()),
+const fn bare(number: u32) -> Refused {
+    match number {
         1 => Refused::NotSixteenBytes,
         2 => Refused::NoSuchChannel,
         3 => Refused::ByteNotZero,
@@ -121,10 +127,32 @@ pub(crate) fn numbered(number: u32) -> Result<(), Refused> {
         5 => Refused::MinuteTooLate,
         6 => Refused::NotFinite,
         7 => Refused::OutsideLimits,
-        8 => Refused::NotLater,
+        8 => Refused::Repeated,
         9 => Refused::Setting,
         10 => Refused::Certificate,
+        13 => Refused::WetAboveDry,
+        14 => Refused::NoThreeHours,
+        15 => Refused::TooDry,
         _ => Refused::NoStore,
+    }
+}
+
+/// What an opening of this number came to: numbers are 0, 9 and 10, by the contract.
+#[inline]
+pub(crate) fn opened(number: u32) -> Result<(), Refused> {
+    match number {
+        0 => Ok(()),
+        _ => Err(bare(number)),
+    }
+}
+
+/// What a hearing came to: numbers are 0 to 8, 19 and 255, by the contract.
+#[inline]
+pub(crate) fn heard(told: raw::Heard) -> Result<(), Refused> {
+    Err(match told.number {
+        0 => return Ok(()),
+        19 => Refused::Late { minutes: told.late },
+        number => bare(number),
     })
 }
 
@@ -138,13 +166,42 @@ pub(crate) fn asked(why: raw::Refusal) -> Result<(), Refused> {
     } = why;
     Err(match number {
         0 => return Ok(()),
-        5 => Refused::MinuteTooLate,
-        7 => Refused::OutsideLimits,
         11 => Refused::MissingReading { channel, minute },
         12 => Refused::OutsideCertificate { minute },
-        13 => Refused::WetAboveDry,
-        14 => Refused::NoThreeHours,
-        15 => Refused::TooDry,
-        _ => Refused::NoStore,
+        number => bare(number),
     })
+}
+
+#[cfg(test)]
+mod tests {
+    use super::*;
+
+    #[test]
+    fn what_is_told_by_a_number_has_that_number() {
+        let late = 60;
+        for number in (1..=8).chain([19, raw::NO_STORE]) {
+            let refused = heard(raw::Heard { number, late }).unwrap_err();
+            assert_eq!(refused.number(), number);
+        }
+        for number in [9, 10] {
+            assert_eq!(opened(number).unwrap_err().number(), number);
+        }
+        let (channel, minute) = (4, 220);
+        for number in [5, 7, 11, 12, 13, 14, 15, raw::NO_STORE] {
+            let why = raw::Refusal {
+                number,
+                channel,
+                minute,
+            };
+            assert_eq!(asked(why).unwrap_err().number(), number);
+        }
+    }
+
+    #[test]
+    fn only_19_is_told_with_minutes() {
+        let line = |number, late| heard(raw::Heard { number, late }).unwrap_err().to_string();
+        assert_eq!(line(19, 60), "refused 19 60");
+        assert_eq!(line(19, u64::MAX), "refused 19 18446744073709551615");
+        assert_eq!(line(8, 0), "refused 8");
+    }
 }

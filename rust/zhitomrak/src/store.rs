@@ -1,7 +1,7 @@
 //! A store: opened with settings, it hears messages and is asked.
 
 use crate::raw;
-use crate::refusal::{asked, numbered, Refused};
+use crate::refusal::{asked, heard, opened, Refused};
 
 /// The barometer's unit.
 #[derive(Clone, Copy, Debug, PartialEq, Eq)]
@@ -98,7 +98,7 @@ impl Store {
             Unit::Millimetres => 1,
         };
         let mut block = Box::new([0; raw::WORDS]);
-        numbered(raw::open(
+        opened(raw::open(
             &mut block,
             raw::Settings {
                 unit,
@@ -113,11 +113,11 @@ impl Store {
         Ok(Store { block })
     }
 
-    /// Hears a message of instruments, 16 bytes, and keeps its reading; or the first of refusals 1 to 8 whose reason holds, and
-    /// nothing has changed.
+    /// Hears a message of instruments, 16 bytes, and keeps its reading; or the first of refusals 1 to 8 and 19 whose reason holds,
+    /// and nothing has changed.
     #[inline]
     pub fn hear(&mut self, message: &[u8]) -> Result<(), Refused> {
-        numbered(raw::hear(&mut self.block, message))
+        heard(raw::hear(&mut self.block, message))
     }
 
     /// The pressure at sea level at a minute, tenths of hPa; refusals 5, 11, 12.
@@ -186,6 +186,45 @@ mod tests {
         }
         assert_eq!(Refused::NoStore.to_string(), "refused 255");
         assert!(store.block.iter().all(|&word| word == 0));
+    }
+
+    fn opened_store() -> Store {
+        let point = |reading| Point {
+            reading,
+            correction: 0,
+        };
+        Store::open(&Settings {
+            unit: Unit::Hectopascals,
+            height: 0,
+            difference: 0,
+            coefficient: 0,
+            psychrometer: 662,
+            certificate: &[point(8500), point(11000)],
+        })
+        .expect("the settings are good")
+    }
+
+    #[test]
+    fn a_repeated_minute_and_a_late_one_are_told_apart() {
+        let mut store = opened_store();
+        let bulb = |channel: u8, minute: u32| {
+            let mut message = [0; 16];
+            message[0] = channel;
+            message[4..8].copy_from_slice(&minute.to_le_bytes());
+            message[8..12].copy_from_slice(&15.0_f32.to_le_bytes());
+            message
+        };
+        assert_eq!(store.hear(&bulb(4, 300)), Ok(()));
+        let was = store.block.clone();
+        assert_eq!(store.hear(&bulb(4, 300)), Err(Refused::Repeated));
+        for minutes in [1, 60, 255, 256, 300] {
+            let late = Err(Refused::Late { minutes });
+            assert_eq!(store.hear(&bulb(4, 300 - minutes as u32)), late);
+        }
+        assert!(store.block == was);
+        // another channel's first
+        assert_eq!(store.hear(&bulb(5, 0)), Ok(()));
+        assert_eq!(store.hear(&bulb(5, 0)), Err(Refused::Repeated));
     }
 
     #[test]
