@@ -4,19 +4,19 @@
 use reference::station;
 use zhitomrak::raw;
 
-use crate::pair::{independent, message, Chosen};
+use crate::pair::{independent, message, not_later, Chosen};
 use crate::random::Random;
 use crate::tally::{Answer, Tally};
 use crate::watches::chosen;
 
-fn numbered(number: u32) -> Answer {
+fn opened(number: u32) -> Answer {
     match number {
         0 => Answer::Given([0; 5]),
         _ => Answer::Refused(number, 0, 0),
     }
 }
 
-/// What a message came to: nothing but a refusal has minutes.
+/// What a message came to; minutes beside any number are compared.
 fn heard(told: raw::Heard) -> Answer {
     match (told.number, told.late) {
         (0, 0) => Answer::Given([0; 5]),
@@ -51,6 +51,10 @@ impl Both {
     /// Compares what a call came to; one that was refused has changed no word.
     fn same(&self, tally: &mut Tally, kind: &'static str, a: Answer, b: Answer, was: &[u64]) {
         tally.answers(kind, a, b, || self.told.clone());
+        self.left_alone(tally, b, was);
+    }
+
+    fn left_alone(&self, tally: &mut Tally, b: Answer, was: &[u64]) {
         if let Answer::Refused(..) = b {
             let stays = self.proved[..] == *was;
             tally.same("blocks, left alone", true, &stays, &true, || {
@@ -83,7 +87,7 @@ impl Both {
         );
         let b = chosen.independent(|settings| self.independent.open(settings));
         let b = independent(b, |()| [0; 5]);
-        self.same(tally, "blocks, opened", numbered(a), b, &was[..]);
+        self.same(tally, "blocks, opened", opened(a), b, &was[..]);
     }
 
     fn hear(&mut self, tally: &mut Tally, message: &[u8]) {
@@ -92,7 +96,8 @@ impl Both {
         let was = self.proved.clone();
         let a = raw::hear(&mut self.proved, message);
         let b = independent(self.independent.hear(message), |()| [0; 5]);
-        self.same(tally, "blocks, heard", heard(a), b, &was[..]);
+        tally.heard("blocks, heard", heard(a), b, || self.told.clone());
+        self.left_alone(tally, b, &was[..]);
     }
 
     fn ask(&mut self, tally: &mut Tally, minute: u32) {
@@ -161,8 +166,10 @@ pub fn compare(tally: &mut Tally, r: &mut Random, rounds: u64) {
                 0 => both.open(tally, &chosen(r)),
                 1 | 2 => {
                     minute += r.below(2) as u32;
+                    let late = r.once_in(4);
                     for channel in 0..6 {
-                        both.hear(tally, &reading(r, channel, minute));
+                        let sent = if late { not_later(r, minute) } else { minute };
+                        both.hear(tally, &reading(r, channel, sent));
                     }
                 }
                 3 => {

@@ -39,6 +39,7 @@ fn main() {
     let mut r = Random::new(seed);
     watches::openings(&mut tally, &mut r, 20_000 * times);
     messages::compare(&mut tally, &mut r, 2_500 * times);
+    messages::repeated_or_late(&mut tally, &mut r, 400 * times);
     watches::compare(&mut tally, &mut r, 100 * times);
     wind::compare(&mut tally, &mut r, 100_000 * times, 400 * times);
     humidity::dew_points(&mut tally);

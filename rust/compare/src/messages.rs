@@ -1,13 +1,22 @@
 //! Messages: random, damaged, and bent towards every edge of a value. Each is sent beside good readings of the other channels, so
-//! that the questions then show what was kept of it.
+//! that the questions then show what was kept of it. And messages that are repeated or late, by every edge of how late.
 
-use crate::pair::{message, Chosen, Pair};
+use crate::pair::{message, not_later, Chosen, Pair, LAST};
 use crate::random::Random;
 use crate::tally::Tally;
 
-/// What is sent on the channels that are not tried.
+/// What is sent on the channels that are not tried: the two values of a good message.
 const FIRST: [f32; 6] = [1000.0, 12.4, 8.0, 10.0, 20.0, 15.0];
 const SECOND: [f32; 6] = [0.0, 0.0, 40.0, 90.0, 0.0, 0.0];
+
+fn good(channel: u8, minute: u32, mm_hg: bool) -> [u8; 16] {
+    let first = if channel == 0 && mm_hg {
+        750.0
+    } else {
+        FIRST[channel as usize]
+    };
+    message(channel, minute, first, SECOND[channel as usize])
+}
 
 /// The limits of a channel's first value, in tenths.
 fn limits(channel: u8, mm_hg: bool) -> (i32, i32) {
@@ -130,25 +139,44 @@ pub fn compare(tally: &mut Tally, r: &mut Random, rounds: u64) {
         let mut minute = r.pick(&[0, 200, 16_777_000]);
         for _ in 0..40 {
             minute += r.pick(&[1, 1, 1, 2, 180]);
-            if minute > 16_777_215 {
+            if minute > LAST {
                 break;
             }
             let channel = r.below(6) as u8;
             for other in (0..6).filter(|&c| c != channel) {
-                let first = if other == 0 && mm_hg {
-                    750.0
-                } else {
-                    FIRST[other as usize]
-                };
-                pair.hear(
-                    tally,
-                    "messages, good",
-                    &message(other, minute, first, SECOND[other as usize]),
-                );
+                pair.hear(tally, "messages, good", &good(other, minute, mm_hg));
             }
             let m = tried(r, channel, minute, mm_hg);
             pair.hear(tally, "messages, tried", &m);
             pair.ask_all(tally, "messages, what was kept", minute);
+        }
+    }
+}
+
+/// Each channel has a newest of its own. Then come messages of that minute, of earlier ones and now and then of a later one; some are
+/// wrong besides, and are no newest.
+pub fn repeated_or_late(tally: &mut Tally, r: &mut Random, rounds: u64) {
+    for _ in 0..rounds {
+        let mm_hg = r.once_in(2);
+        let mut pair = Pair::open(tally, &Chosen::plain(mm_hg)).expect("plain settings open");
+        let mut newest = [None; 6];
+        for _ in 0..40 {
+            let channel = r.below(6) as u8;
+            let minute = match newest[channel as usize] {
+                None => r.pick(&[0, 1, 2, 255, 256, 257, 1_000, 65_536, LAST - 1, LAST]),
+                Some(newest) if r.once_in(8) => newest + r.pick(&[1, 2, 180, 256, 70_000]),
+                Some(newest) => not_later(r, newest),
+            };
+            let m = if r.once_in(4) {
+                tried(r, channel, minute, mm_hg)
+            } else {
+                good(channel, minute, mm_hg).to_vec()
+            };
+            if pair.hear(tally, "messages, repeated or late", &m) {
+                let minute = u32::from_le_bytes([m[4], m[5], m[6], m[7]]);
+                newest[m[0] as usize] = Some(minute);
+                pair.ask_all(tally, "messages, what was kept", minute);
+            }
         }
     }
 }

@@ -4,7 +4,11 @@ use reference::refusal::Refused as Independent;
 use reference::{settings, station};
 use zhitomrak::{Point, Refused, Settings, Store, Unit};
 
+use crate::random::Random;
 use crate::tally::{Answer, Tally};
+
+/// The last minute there is.
+pub const LAST: u32 = 16_777_215;
 
 /// Settings that either side can be given.
 #[derive(Clone, Debug)]
@@ -169,11 +173,13 @@ impl Pair {
         format!("{}\n{heard}{last}", self.opened)
     }
 
-    pub fn hear(&mut self, tally: &mut Tally, kind: &'static str, message: &[u8]) {
+    /// Whether the message was heard, which is compared.
+    pub fn hear(&mut self, tally: &mut Tally, kind: &'static str, message: &[u8]) -> bool {
         self.heard.push(message.to_vec());
         let a = proved(self.proved.hear(message), |()| [0; 5]);
         let b = independent(self.independent.hear(message), |()| [0; 5]);
-        tally.answers(kind, a, b, || self.script(String::new()));
+        tally.heard(kind, a, b, || self.script(String::new()));
+        matches!(b, Answer::Given(_))
     }
 
     pub fn pressure(&self, tally: &mut Tally, kind: &'static str, minute: u32) {
@@ -237,6 +243,17 @@ pub fn message(channel: u8, minute: u32, first: f32, second: f32) -> [u8; 16] {
         m[12..].copy_from_slice(&second.to_le_bytes());
     }
     m
+}
+
+/// By how many minutes a message is not later than its channel's newest: none, the least, what is still kept and what no longer, and
+/// borders of bytes.
+const EARLIER: [u32; 16] = [
+    0, 0, 1, 2, 3, 60, 254, 255, 256, 257, 511, 512, 65_535, 65_536, 1_000_000, LAST,
+];
+
+/// A minute at or before the newest, and minute 0 where there is none so early.
+pub fn not_later(r: &mut Random, newest: u32) -> u32 {
+    newest.saturating_sub(r.pick(&EARLIER))
 }
 
 /// A message whose values are whole tenths, and whole degrees.

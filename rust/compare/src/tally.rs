@@ -10,6 +10,9 @@ pub enum Answer {
     Refused(u32, usize, usize),
 }
 
+/// The refusals that a message can get from an opened store.
+const OF_MESSAGES: [u32; 9] = [1, 2, 3, 4, 5, 6, 7, 8, 19];
+
 #[derive(Default)]
 struct Count {
     compared: u64,
@@ -20,6 +23,7 @@ pub struct Tally {
     seed: u64,
     only: Option<String>,
     counts: BTreeMap<&'static str, Count>,
+    messages: BTreeMap<u32, u64>,
 }
 
 impl Tally {
@@ -29,7 +33,12 @@ impl Tally {
             seed,
             only,
             counts: BTreeMap::new(),
+            messages: BTreeMap::new(),
         }
+    }
+
+    fn leaves_out(&self, kind: &str) -> bool {
+        self.only.as_ref().is_some_and(|only| only != kind)
     }
 
     /// Compares one answer, and counts it as refused or not. `input` is what to send to either side to see a difference.
@@ -42,7 +51,7 @@ impl Tally {
         independent: &T,
         input: impl FnOnce() -> String,
     ) {
-        if self.only.as_ref().is_some_and(|only| only != kind) {
+        if self.leaves_out(kind) {
             return;
         }
         let count = self.counts.entry(kind).or_default();
@@ -78,10 +87,34 @@ impl Tally {
         );
     }
 
+    /// The same of what a message came to, which is counted by its number too.
+    #[inline]
+    pub fn heard(
+        &mut self,
+        kind: &'static str,
+        proved: Answer,
+        independent: Answer,
+        input: impl FnOnce() -> String,
+    ) {
+        if let (Answer::Refused(number, ..), false) = (independent, self.leaves_out(kind)) {
+            *self.messages.entry(number).or_default() += 1;
+        }
+        self.answers(kind, proved, independent, input);
+    }
+
+    /// Ends the run as failed where a refusal of messages was never met: nothing was compared there.
     pub fn print(&self) {
         println!("{:26} {:>12} {:>12}", "", "compared", "refused");
         for (kind, count) in &self.counts {
             println!("{kind:26} {:>12} {:>12}", count.compared, count.refused);
+        }
+        let numbers = self.messages.iter();
+        let numbers: Vec<String> = numbers.map(|(n, count)| format!("{n}: {count}")).collect();
+        println!("messages refused, by number: {}", numbers.join(", "));
+        let never = |number: &&u32| !self.messages.contains_key(number);
+        if let (Some(number), None) = (OF_MESSAGES.iter().find(never), &self.only) {
+            println!("no message was refused {number}");
+            std::process::exit(1);
         }
         let total: u64 = self.counts.values().map(|count| count.compared).sum();
         println!(

@@ -1,11 +1,10 @@
 //! Whole watches of several stores, interleaved, and questions at every kind of minute.
 
-use crate::pair::{tenths, Chosen, Pair};
+use crate::pair::{not_later, tenths, Chosen, Pair, LAST};
 use crate::random::Random;
 use crate::tally::Tally;
 
 const STORES: usize = 4;
-const LAST: u32 = 16_777_215;
 
 /// Settings, mostly within their limits and often at them; sometimes outside.
 pub fn chosen(r: &mut Random) -> Chosen {
@@ -117,7 +116,7 @@ impl Ship {
         );
     }
 
-    /// One turn of a watch: time passes, some instruments send, some of what they send comes late.
+    /// One turn of a watch: time passes, some instruments send, some of what they send comes late or again.
     fn turn(&mut self, tally: &mut Tally, r: &mut Random) {
         let passes = match r.below(40) {
             0 => 100 + r.below(200) as u32,
@@ -140,6 +139,12 @@ impl Ship {
         }
         if !quiet {
             self.bulbs(tally, r);
+        }
+        if r.once_in(12) {
+            let channel = r.below(6) as u8;
+            let minute = not_later(r, self.newest[channel as usize]);
+            let reading = self.reading(r, channel);
+            self.send(tally, channel, minute, reading);
         }
         self.ask(tally, r);
     }
