@@ -83,24 +83,30 @@ fn hearing(name: &str, sent: &[Message]) {
     );
 }
 
-/// Hears again what is not later: refusal 8, after all the other tests.
-fn not_later(sent: &[Message]) {
+/// Hears again what is not later: all of it refused by this number, after all the other tests.
+fn not_later(refused: u32, sent: &[Message], again: &[Message]) {
+    let name = format!("hear, refused {refused}");
     let (mut a, mut b) = (inputs::open_proved(), inputs::open_independent());
     same(
-        "refused 8",
+        &name,
         hear_proved(&mut a, sent),
         hear_independent(&mut b, sent),
     );
-    same(
-        "refused 8",
-        hear_proved(&mut a, sent),
-        hear_independent(&mut b, sent),
-    );
+    for m in again {
+        let (mine, theirs) = (a.hear(m), b.hear(m));
+        same(&name, number(&mine, |r| r.number()), refused);
+        // with the minutes of 19
+        same(
+            &name,
+            mine.map_err(|r| r.to_string()),
+            theirs.map_err(|r| r.to_string()),
+        );
+    }
     row(
-        "hear, refused 8",
-        sent.len(),
-        || hear_proved(&mut a, sent),
-        || hear_independent(&mut b, sent),
+        &name,
+        again.len(),
+        || hear_proved(&mut a, again),
+        || hear_independent(&mut b, again),
     );
 }
 
@@ -311,7 +317,9 @@ fn main() {
     );
     let sent = inputs::watch(20_000, 1);
     hearing("hear, each minute", &sent);
-    not_later(&sent);
+    let (before, newest) = sent.split_at(sent.len() - 6);
+    not_later(8, &sent, &newest.repeat(20_000));
+    not_later(19, &sent, before);
     for gap in [2, 4, 16, 64, 256, 300, 1000] {
         hearing(
             &format!("hear, every {gap} minutes"),
