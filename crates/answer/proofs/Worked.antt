@@ -25,9 +25,14 @@ broken-certificate = refl
 pub heard : hearingLine hearing.Heard ≡ letters "heard\n"
 heard = refl
 
-pub not-later : hearingLine hearing.NotLater ≡ letters "refused 8\n"
+pub repeated : hearingLine hearing.Repeated ≡ letters "refused 8\n"
 unfolding digits decimal row
-not-later = refl
+repeated = refl
+
+-- an hour late
+pub late : hearingLine (hearing.Late 60) ≡ letters "refused 19 60\n"
+unfolding digits decimal row
+late = refl
 
 -- a block that is no store
 pub no-store : hearingLine hearing.NoStore ≡ letters "refused 255\n"

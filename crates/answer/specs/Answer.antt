@@ -47,9 +47,14 @@ numberLine word n = cond (eqb n 0) (word ++ end) (refusedLine (numbered n []))
 abbrev pub openingLine : Checked → List ℕ
 openingLine r = wordLine (letters "open") (checkedAs r)
 
--- `heard`
+-- A line, or a refusal with what it also returns.
+abbrev pub answerLine : {A : Type 0} → List ℕ → Answer Numbered A → List ℕ
+answerLine line (given a) = line
+answerLine line (refused r) = refusedLine r
+
+-- `heard`, or `refused 19 60`: sixty minutes late
 abbrev pub hearingLine : Hearing → List ℕ
-hearingLine r = wordLine (letters "heard") (heardAs r)
+hearingLine r = answerLine (letters "heard" ++ end) (heardAs r)
 
 -- `P 280 9900`: minute, tenths of hPa
 abbrev pub pressureLine : ℕ → PressureAnswer → List ℕ
@@ -81,9 +86,5 @@ abbrev pub fileLine : List ℕ → List ℕ
 fileLine file = letters "file " ++ (hex file ++ end)
 
 -- A file that was written, or the refusal.
-abbrev pub writingLine : List ℕ → Answer Numbered ℕ → List ℕ
-writingLine file (given n) = fileLine file
-writingLine file (refused r) = refusedLine r
-
 abbrev pub writtenLine : List ℕ → Written → List ℕ
-writtenLine file r = writingLine file (writtenAs r)
+writtenLine file r = answerLine (fileLine file) (writtenAs r)

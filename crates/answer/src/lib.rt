@@ -91,11 +91,15 @@ pub fn put_opening(text: &mut [u8], at: usize, r: Checked) -> usize
     put_word(text, at, b"open", settings::number(r))
 }
 
-// Puts `heard`, or the refusal.
+// Puts `heard`, or the refusal; behind 19 stands how many minutes late the message was.
 pub fn put_hearing(text: &mut [u8], at: usize, r: Hearing) -> usize
     ensures { λ place. ⌜ Put (now (text .entry)) (now (text .exit)) at (hearingLine r) place ⌝ }
 {
-    put_word(text, at, b"heard", store::number(r))
+    let n = store::number(r);
+    match r {
+        Hearing::Late(minutes) => put_refusal(text, at, &[n as u64, minutes]),
+        _ => put_word(text, at, b"heard", n),
+    }
 }
 
 // ---- the four questions

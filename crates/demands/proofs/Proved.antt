@@ -3,7 +3,7 @@ use mathlib.Core.Path.{_≡_, refl, sym, ap, subst, _∙_}
 use mathlib.Core.Bool.{Bool, true, false, cond}
 use mathlib.Core.List.{List, [], _∷_}
 use mathlib.Core.Logic.{_↔_}
-use Prim.Native.Nat.{ℕ}
+use Prim.Native.Nat.{ℕ, _+_, _-_}
 use denote.Ref.{at-last}
 use lib.IntN.{ℤ}
 use lib.ListN.{length}
@@ -18,10 +18,10 @@ use Rattle.settings.specs.declared.Checked.{Checked}
 use Rattle.settings.specs.declared.Checked.the-variants as opening
 use Rattle.settings.proofs.SingleAnswers.{case-of, case-back}
 use Rattle.wire.specs.declared.MessageRefusal.the-variants.{NotSixteenBytes, NoSuchChannel, ByteNotZero, WetBulbNotWater, MinuteTooLate, NotFinite, OutsideLimits}
-use Rattle.store.specs.Block.{openedBy, unopened, hearing, hearTests, entryOfBytes, heardAs, heardBy, outcome}
+use Rattle.store.specs.Block.{openedBy, noStore, nextIn, hearing, hearTests, entryOfBytes, heardAs, heardBy, outcome}
 use Rattle.store.specs.History.{store-of}
 use Rattle.store.specs.declared.Hearing.{Hearing}
-use Rattle.store.specs.declared.Hearing.the-variants.{Heard, Refused, NotLater, NoStore}
+use Rattle.store.specs.declared.Hearing.the-variants.{Heard, Refused, Repeated, Late, NoStore}
 use Rattle.store.proofs.StoreTheorems.{refused-changes-nothing}
 use Rattle.station.specs.Source.{heard}
 use Rattle.station.specs.Questions.{question}
@@ -60,12 +60,12 @@ by-settings b g c b′ w n =
     (λ e. law .0 (sym is ∙ e), λ f. is ∙ law .1 f)
 
 -- hearing, told without what is kept
-outcome-refused : (a : Answer ℕ Entry) (n : ℕ) → (outcome a ≡ refused n) ↔ (a ≡ refused n)
+outcome-refused : (a : Answer Numbered Entry) (n : Numbered) → (outcome a ≡ refused n) ↔ (a ≡ refused n)
 outcome-refused (refused k) n = (λ e. let z : k ≡ n = cc in ap refused z, λ e. let z : k ≡ n = cc in ap refused z)
 outcome-refused (given e) n = (λ e. impossible (cc), λ e. impossible (cc))
 
 by-messages : (g : Settings) (M : List (List ℕ)) (b : List ℕ) → Working g M b → (m : List ℕ) (h : Hearing) (b′ : List ℕ) → Hears b m h b′
-    → (n : ℕ) → (heardAs h ≡ refused n) ↔ First (messageTests g M m) n
+    → (n : Numbered) → (heardAs h ≡ refused n) ↔ First (messageTests g M m) n
 by-messages g M b w m h b′ v n =
     let law = refused-exactly (wouldKeep g m) (messageTests g M m) n in
     let is = hear-answer b m h b′ v ∙ ap (λ (s : List ℕ). outcome (hearing s m)) (block g M b w) in
@@ -92,12 +92,12 @@ opening-leaves : (s : List ℕ) (g : Settings) (n : ℕ) → checked g ≡ refus
 unfolding openedBy
 opening-leaves s g n e = rw e
 
--- every number that a message may be refused with is that of some answer
-abbrev Told : List (Test ℕ) → Type 0
+-- whatever a message may be refused with is what some answer tells
+abbrev Told : List (Test Numbered) → Type 0
 Told [] = Unit
 Told (t ∷ ts) = ((h : Hearing) × (heardAs h ≡ refused (t .refusal))) × Told ts
 
-some-answer : (ts : List (Test ℕ)) → Told ts → (e : Entry) → (h : Hearing) × (heardAs h ≡ outcome (answer ts e))
+some-answer : (ts : List (Test Numbered)) → Told ts → (e : Entry) → (h : Hearing) × (heardAs h ≡ outcome (answer ts e))
 unfolding answer
 some-answer [] all e = (Heard, refl)
 some-answer (t ∷ ts) all e = go (t .holds) (all .0) (some-answer ts (all .1) e)
@@ -110,7 +110,8 @@ some-answer (t ∷ ts) all e = go (t .holds) (all .0) (some-answer ts (all .1) e
 goes-on : (b m : List ℕ) → (h : Hearing) × (b′ : List ℕ) × Hears b m h b′
 unfolding hearing
 goes-on b m =
-    let a = some-answer (unopened b ∷ hearTests b m) (
+    let e = entryOfBytes b m in
+    let a = some-answer (noStore b ∷ hearTests b m) (
       (NoStore, refl),
       (
         (Refused NotSixteenBytes, refl),
@@ -120,13 +121,19 @@ goes-on b m =
             (Refused ByteNotZero, refl),
             (
               (Refused WetBulbNotWater, refl),
-              ((Refused MinuteTooLate, refl), ((Refused NotFinite, refl), ((Refused OutsideLimits, refl), ((NotLater, refl), tt)))),
+              (
+                (Refused MinuteTooLate, refl),
+                (
+                  (Refused NotFinite, refl),
+                  ((Refused OutsideLimits, refl), ((Repeated, refl), ((Late (nextIn b (e .channel) - (e .minute + 1)), refl), tt))),
+                ),
+              ),
             ),
           ),
         ),
       ),
     )
-    (entryOfBytes b m) in (
+    e in (
       a .0,
       heardBy b m,
       (([], ([], tt)), (lent b, (lent m, tt)), a .0, (at-last (lent b) (heardBy b m), (lent m, tt)), record { answer = a .1; block = refl }, (refl, refl, refl, refl)),

@@ -47,7 +47,7 @@ pub record Demand1 : Type 0 where
   pub setting : (b : List ℕ) (g : Settings) (c : Checked) (b′ : List ℕ) → Opens b g c b′
       → (n : ℕ) → (checkedAs c ≡ refused n) ↔ First (settings.tests g) n
   pub message : (g : Settings) (M : List (List ℕ)) (b : List ℕ) → Working g M b → (m : List ℕ) (h : Hearing) (b′ : List ℕ) → Hears b m h b′
-      → (n : ℕ) → (heardAs h ≡ refused n) ↔ First (messageTests g M m) n
+      → (n : Numbered) → (heardAs h ≡ refused n) ↔ First (messageTests g M m) n
   pub asked : (q : Asked) (g : Settings) (M : List (List ℕ)) (m : ℕ) (x : Reply q) → Replies q g M m x
       → (table : ℤ → ℕ) → IsTable table → (n : Numbered) → (question q .told x ≡ refused n) ↔ First (question q .tests [] table (heard g M) m) n
   pub write : (dew : ℕ → ℤ) → DewRule dew → (all : List Record) (count : ℕ) (before after : List ℕ) (w : Written) → WritesFile all count before w after
@@ -62,7 +62,7 @@ pub record Demand1 : Type 0 where
   -- "A refused message or question changes nothing in the store, and a refused write changes no byte lent to it." A refused opening
   -- leaves the block too, and a refused listing the text.
   pub refused-opening : (b : List ℕ) (g : Settings) (c : Checked) (b′ : List ℕ) (n : ℕ) → Opens b g c b′ → checkedAs c ≡ refused n → b′ ≡ b
-  pub refused-message : (b m : List ℕ) (h : Hearing) (b′ : List ℕ) (n : ℕ) → Hears b m h b′ → heardAs h ≡ refused n → b′ ≡ b
+  pub refused-message : (b m : List ℕ) (h : Hearing) (b′ : List ℕ) (n : Numbered) → Hears b m h b′ → heardAs h ≡ refused n → b′ ≡ b
   pub refused-question : (q : Asked) (b : List ℕ) (m : ℕ) (x : Reply q) (b′ : List ℕ) (n : Numbered) → Asks q b m x b′ → question q .told x ≡ refused n → b′ ≡ b
   pub refused-write : (all : List Record) (count : ℕ) (before after : List ℕ) (w : Written) (n : Numbered)
       → WritesFile all count before w after → writtenAs w ≡ refused n → after ≡ before

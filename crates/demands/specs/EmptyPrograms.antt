@@ -68,7 +68,7 @@ block p u = blockOf p (u .memory) (u .settings) (u .messages)
 abbrev pub openingIn : Program → Use → Answer ℕ (Unit {0})
 openingIn p u = checkedAs (p .opens (u .memory) (u .settings) .0)
 
-abbrev pub hearingIn : Program → List ℕ → Use → Answer ℕ (Unit {0})
+abbrev pub hearingIn : Program → List ℕ → Use → Answer Numbered (Unit {0})
 hearingIn p m u = heardAs (p .hears (block p u) m .0)
 
 abbrev pub answerIn : (q : Asked) → Program → Use → Answer Numbered (question q .Figures)

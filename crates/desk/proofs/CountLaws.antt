@@ -10,7 +10,7 @@ use lib.Dec.{eqb, lit<}
 use lib.ListN.{length, getD, take, drop, set, length-drop, length-append, drop-of-length-le}
 use lib.Seq.{drop-drop, take-at, drop-at, take-all, lt-length-set, getD-set-same, getD-set-other}
 use borrow.Author.Tests.{eqb-true, eqb-false}
-use Rattle.number.specs.Refusal.{Answer, refused, given, numberIn}
+use Rattle.number.specs.Refusal.{Numbered, Answer, refused, given, numberedIn}
 use Rattle.wire.specs.declared.MessageRefusal.{MessageRefusal}
 use Rattle.wire.specs.declared.MessageRefusal.the-variants.{NotSixteenBytes, NoSuchChannel, ByteNotZero, WetBulbNotWater, MinuteTooLate, NotFinite, OutsideLimits}
 use Rattle.message.specs.Receive.{Entry}
@@ -18,7 +18,7 @@ use Rattle.settings.specs.declared.Settings.{Settings}
 use Rattle.store.specs.Block.{hearing, heardBy, heardAs, outcome, Hears}
 use Rattle.store.specs.History.{store-of}
 use Rattle.store.specs.declared.Hearing.{Hearing}
-use Rattle.store.specs.declared.Hearing.the-variants.{Heard, Refused, NotLater, NoStore}
+use Rattle.store.specs.declared.Hearing.the-variants.{Heard, Refused, Repeated, Late, NoStore}
 use Rattle.desk.specs.Counting.{cut, messages, heardAll, oneMore, countedAll}
 
 -- ---- cutting
@@ -73,11 +73,11 @@ module _ (s : List ℕ) (at end : ℕ) (here : at < length s) (ends : end ≡ mi
 -- ---- numbers
 
 -- each has a place among the counts
-pub number-small : (h : Hearing) → numberIn (heardAs h) < 256
+pub number-small : (h : Hearing) → numberedIn (heardAs h) < 256
 number-small Heard = lit< tt
 number-small (Refused r) = go r
   where
-    go : (r : MessageRefusal) → numberIn (heardAs (Refused r)) < 256
+    go : (r : MessageRefusal) → numberedIn (heardAs (Refused r)) < 256
     go NotSixteenBytes = lit< tt
     go NoSuchChannel = lit< tt
     go ByteNotZero = lit< tt
@@ -85,10 +85,11 @@ number-small (Refused r) = go r
     go MinuteTooLate = lit< tt
     go NotFinite = lit< tt
     go OutsideLimits = lit< tt
-number-small NotLater = lit< tt
+number-small Repeated = lit< tt
+number-small (Late minutes) = lit< tt
 number-small NoStore = lit< tt
 
-same-number : (a : Answer ℕ Entry) → numberIn (outcome a) ≡ numberIn a
+same-number : (a : Answer Numbered Entry) → numberedIn (outcome a) ≡ numberedIn a
 same-number (refused n) = refl
 same-number (given e) = refl
 
@@ -96,15 +97,15 @@ same-number (given e) = refl
 
 -- a message was heard, and its number counted: what is left comes to the same
 module _ (s s′ m counts : List ℕ) (M : List (List ℕ)) (h : Hearing) (n k : ℕ)
-    (hears : Hears s s′ m h) (number : n ≡ numberIn (heardAs h)) (more : k ≡ min (getD counts n 0 + 1) (2 ^ 64 - 1)) where
+    (hears : Hears s s′ m h) (number : n ≡ numberedIn (heardAs h)) (more : k ≡ min (getD counts n 0 + 1) (2 ^ 64 - 1)) where
   pub heard-on : heardAll s′ M ≡ heardAll s (m ∷ M)
   unfolding heardAll
   heard-on = ap (λ (b : List ℕ). heardAll b M) (hears .block)
 
-  counted-one : set counts n k ≡ oneMore counts (numberIn (hearing s m))
+  counted-one : set counts n k ≡ oneMore counts (numberedIn (hearing s m))
   unfolding oneMore
   counted-one =
-      let e : n ≡ numberIn (hearing s m) = number ∙ ap numberIn (hears .answer) ∙ same-number (hearing s m) in
+      let e : n ≡ numberedIn (hearing s m) = number ∙ ap numberedIn (hears .answer) ∙ same-number (hearing s m) in
       ap (set counts n) more ∙ ap (λ (j : ℕ). set counts j (min (getD counts j 0 + 1) (2 ^ 64 - 1))) e
 
   pub counted-on : countedAll s′ M (set counts n k) ≡ countedAll s (m ∷ M) counts
@@ -124,7 +125,7 @@ counted-none s counts = refl
 -- How many messages came to a number, each heard by the block that those before it left.
 unfoldable pub howMany : ℕ → List ℕ → List (List ℕ) → ℕ
 howMany n s [] = 0
-howMany n s (m ∷ M) = cond (eqb n (numberIn (hearing s m))) 1 0 + howMany n (heardBy s m) M
+howMany n s (m ∷ M) = cond (eqb n (numberedIn (hearing s m))) 1 0 + howMany n (heardBy s m) M
 
 one-counted : (n k : ℕ) (counts : List ℕ) → n < length counts → getD counts n 0 + cond (eqb n k) 1 0 < 2 ^ 64
     → getD (oneMore counts k) n 0 ≡ getD counts n 0 + cond (eqb n k) 1 0
@@ -152,7 +153,7 @@ pub counts-added : (n : ℕ) (s : List ℕ) (M : List (List ℕ)) (counts : List
 unfolding countedAll howMany
 counts-added n s [] counts inside room = omega arith
 counts-added n s (m ∷ M) counts inside room =
-    let k = numberIn (hearing s m) in
+    let k = numberedIn (hearing s m) in
     let one = one-counted n k counts inside (omega arith) in
     let long : n < length (oneMore counts k) = still-inside n k counts inside in
     counts-added n (heardBy s m) M (oneMore counts k) long (omega arith) ∙ (omega arith)

@@ -3,7 +3,7 @@ use mathlib.Core.Path.{_≡_}
 use mathlib.Core.List.{List, [], _∷_}
 use Prim.Native.Nat.{ℕ, zero, suc, _+_, _-_, _/_, _^_, min}
 use lib.ListN.{length, getD, take, drop, set}
-use Rattle.number.specs.Refusal.{numberIn}
+use Rattle.number.specs.Refusal.{numberedIn}
 use Rattle.store.specs.Block.{hearing, heardBy}
 
 -- "A message is 16 bytes": the first n messages of a text.
@@ -27,7 +27,7 @@ oneMore counts n = set counts n (min (getD counts n 0 + 1) (2 ^ 64 - 1))
 -- The counts after messages, each heard by the block that those before it left, and counted by the number of its refusal, or by 0.
 unfoldable pub countedAll : List ℕ → List (List ℕ) → List ℕ → List ℕ
 countedAll s [] counts = counts
-countedAll s (m ∷ M) counts = countedAll (heardBy s m) M (oneMore counts (numberIn (hearing s m)))
+countedAll s (m ∷ M) counts = countedAll (heardBy s m) M (oneMore counts (numberedIn (hearing s m)))
 
 -- Messages were heard: the block s is s′ then, and the counts `before` are `after`.
 pub record HearsAll (s s′ : List ℕ) (M : List (List ℕ)) (before after : List ℕ) : Type 0 where

@@ -43,7 +43,8 @@ fn is_heard(h: Hearing) -> bool
     match h {
         Hearing::Heard => true,
         Hearing::Refused(_) => false,
-        Hearing::NotLater => false,
+        Hearing::Repeated => false,
+        Hearing::Late(_) => false,
         Hearing::NoStore => false,
     }
 }

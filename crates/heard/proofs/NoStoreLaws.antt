@@ -23,11 +23,11 @@ module _ (s : List ℕ) (none : isStore s ≡ false) where
       question-refused _ _ (question q .told r) (w (table .0) (table .1)) (numbered NO_STORE []) .1
       (0, (subst (λ (b : Bool). T (not b)) (sym none) tt, refl), λ p n l h. absurd (omega arith))
 
-  pub no-store-heard : (m : List ℕ) → hearing s m ≡ refused NO_STORE
+  pub no-store-heard : (m : List ℕ) → hearing s m ≡ refused (numbered NO_STORE [])
   no-store-heard m = hears-nothing s m none
 
 -- Memory of zeros is no store.
 pub zeros-answer-no-store : ((q : Asked) (m : ℕ) (r : Reply q) → TellsOf q zeros m r → question q .told r ≡ refused (numbered NO_STORE []))
-    × ((m : List ℕ) → hearing zeros m ≡ refused NO_STORE)
+    × ((m : List ℕ) → hearing zeros m ≡ refused (numbered NO_STORE []))
 unfolding listed
 zeros-answer-no-store = (no-store-asked zeros refl, no-store-heard zeros refl)

@@ -5,8 +5,8 @@ use mathlib.Core.List.{List}
 use mathlib.Core.Logic.{_↔_}
 use Prim.Native.Nat.{ℕ, _<_}
 use lib.Dec.{lit<}
-use Rattle.number.specs.Refusal.{Numbered, Test, Answer, refused, given, answer, Holds, NoneBelow, First}
-use Rattle.number.proofs.RefusalLaws.{refused-then, then-refused, given-then, then-given, in-number-order}
+use Rattle.number.specs.Refusal.{Numbered, Test, Answer, refused, given, answer, Holds, First}
+use Rattle.number.proofs.RefusalLaws.{refused-then, then-refused, given-then, then-given, refused-exactly}
 use Rattle.number.proofs.Sizes.{impossible}
 use Rattle.wire.specs.Bytes.{minute}
 use Rattle.wire.specs.Decode.{message}
@@ -19,7 +19,7 @@ use Rattle.settings.specs.declared.Settings.{Settings}
 use Rattle.cell.specs.Cells.{CHANNELS}
 use Rattle.store.specs.Block.{hearing}
 use Rattle.store.specs.History.{store-of}
-use Rattle.store.proofs.HistoryLaws.{later-is, store-remembers, open-hears}
+use Rattle.store.proofs.HistoryLaws.{store-remembers, open-hears}
 use Rattle.station.specs.Questions.{Answers}
 use Rattle.heard.specs.Feeds.{wouldKeep, messageTests}
 
@@ -73,9 +73,9 @@ module _ (g : Settings) (good : checked g ≡ given tt) (M : List (List ℕ)) (m
       let e = wouldKeep g m in
       let r = store-remembers g good M in
       let low = entry-low (g .unit) (minute m) (message m) in
-      open-hears g good M m ∙ rw (r .unit, later-is (store-of g M) (g .unit) M r e low, entry-minute (g .unit) (minute m) (message m))
+      open-hears g good M m ∙ rw (r .unit, r .newest (e .channel) low, entry-minute (g .unit) (minute m) (message m))
 
-  pub message-refused-exactly : (n : ℕ) → (hearing (store-of g M) m ≡ refused n) ↔ (Holds (messageTests g M m) n × NoneBelow (messageTests g M m) n)
+  pub message-refused-exactly : (n : Numbered) → (hearing (store-of g M) m ≡ refused n) ↔ First (messageTests g M m) n
   message-refused-exactly n =
-      let law = in-number-order (wouldKeep g m) (messageTests g M m) tt n in
+      let law = refused-exactly (wouldKeep g m) (messageTests g M m) n in
       (λ e. law .0 (sym message-by-messages ∙ e), λ w. message-by-messages ∙ law .1 w)

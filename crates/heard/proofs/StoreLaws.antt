@@ -26,7 +26,8 @@ use Rattle.block.proofs.SettingsLaws.{settings-back, others}
 use Rattle.pressure.specs.Pressure.{Barometer, barometerIn, barometerOf}
 use Rattle.pressure.proofs.PressureTheorems.{Alike, opened-alike, station-recorded}
 use Rattle.station.specs.Source.{heard, held, readingAt}
-use Rattle.station.specs.Questions.{Asked, question, Reply, isIn, AnsweredBy, Tells, TellsOf, noStore, tooLate, missingAt, outsideAt, stationAt, HumidityRule, humidityTests, foreign, foreignTo}
+use Rattle.store.specs.Block.{noStore}
+use Rattle.station.specs.Questions.{Asked, question, Reply, isIn, AnsweredBy, Tells, TellsOf, tooLate, missingAt, outsideAt, stationAt, HumidityRule, humidityTests, foreign, foreignTo}
 use Rattle.station.specs.Questions as asked
 use Rattle.station.specs.Told.{humidityAs}
 use Rattle.station.specs.declared.HumidityAnswer.{HumidityAnswer}

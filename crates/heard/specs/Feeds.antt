@@ -1,12 +1,11 @@
 -- What it means for an answer that settings and messages are alike, the reasons by which a message is refused, and memory that is no
 -- store.
 use mathlib.Core.Path.{_≡_}
-use mathlib.Core.Bool.{Bool, false, not, _||_, cond}
+use mathlib.Core.Bool.{Bool, false, _||_, cond}
 use mathlib.Core.List.{List, [], _∷_, _++_}
 use mathlib.Core.Logic.{_⊎_}
 use Prim.Native.Nat.{ℕ, _<_}
-use lib.Dec.{leb}
-use Rattle.number.specs.Refusal.{Test, given}
+use Rattle.number.specs.Refusal.{Numbered, Test, plain, given}
 use Rattle.quantity.specs.declared.BarometerUnit.{BarometerUnit}
 use Rattle.wire.specs.Bytes.{minute}
 use Rattle.wire.specs.Decode.{message}
@@ -15,6 +14,7 @@ use Rattle.settings.specs.Settings.{pointAt}
 use Rattle.settings.specs.declared.Settings.{Settings}
 use Rattle.block.specs.Layout.{WORDS}
 use Rattle.block.specs.Words.{listed}
+use Rattle.store.specs.Block.{newestTests}
 use Rattle.store.specs.History.{nextOf, history, belongs}
 use Rattle.station.specs.Questions.{Asked, question}
 
@@ -66,16 +66,15 @@ Replaced u reads [] (b ∷ N) = ⊥
 Replaced u reads (a ∷ M) [] = ⊥
 Replaced u reads (a ∷ M) (b ∷ N) = ((a ≡ b) ⊎ Exchanged u reads a b) × Replaced u reads M N
 
--- ---- the reasons of refusals 1 to 8 by the messages heard
+-- ---- the reasons of refusals 1 to 8 and 19 by the messages heard
 
 -- What a message would be kept as.
 abbrev pub wouldKeep : Settings → List ℕ → Entry
 wouldKeep g m = entry (g .unit) (minute m) (message m)
 
--- 8: "not later than the channel's newest"
-abbrev pub messageTests : Settings → List (List ℕ) → List ℕ → List (Test ℕ)
-messageTests g M m =
-    tests (g .unit) m ++ (record { refusal = 8; holds = not (leb (nextOf (history (g .unit) (wouldKeep g m .channel) M)) (minute m)) } ∷ [])
+-- 1 to 7 by the message alone, then 8 and 19 by the newest that its channel has accepted.
+abbrev pub messageTests : Settings → List (List ℕ) → List ℕ → List (Test Numbered)
+messageTests g M m = plain (tests (g .unit) m) ++ newestTests (nextOf (history (g .unit) (wouldKeep g m .channel) M)) (minute m)
 
 -- ---- "a refused opening gives no store"
 

@@ -10,7 +10,7 @@ use native.Mathlib.Decide.{decLt}
 use native.Mathlib.Nat.{not-suc-le-zero, le-of-suc-le-suc}
 use lib.Dec.{T, ltb, ltb→lt}
 use lib.Ieee.Fits.{and-l, and-r}
-use Rattle.number.specs.Refusal.{Test, Answer, refused, given, answer, HoldsAt, Holds, NoneBefore, First, NoneBelow, inOrder}
+use Rattle.number.specs.Refusal.{Numbered, numbered, Test, plain, Answer, refused, given, answer, HoldsAt, Holds, NoneBefore, First, NoneBelow, inOrder}
 use Rattle.number.proofs.Sizes.{impossible}
 
 -- a refusal is not what is given
@@ -112,6 +112,27 @@ given-is (t ∷ ts) a x e = go (t .holds) refl (given-is ts a x)
     go : (h : Bool) → t .holds ≡ h → (answer ts a ≡ given x → a ≡ x) → a ≡ x
     go true h rest = refused-not-given (rw h at e)
     go false h rest = rest (rw h at e)
+
+-- ---- tests that refuse with nothing but their number
+
+module _ {A : Type 0} (a : A) where
+  pub plain-refused : (ts : List (Test ℕ)) (n : ℕ) → answer ts a ≡ refused n → answer (plain ts) a ≡ refused (numbered n [])
+  unfolding answer
+  plain-refused [] n e = given-not-refused e
+  plain-refused (t ∷ ts) n e = go (t .holds) refl (plain-refused ts n)
+    where
+      go : (h : Bool) → t .holds ≡ h → (answer ts a ≡ refused n → answer (plain ts) a ≡ refused (numbered n [])) → answer (plain (t ∷ ts)) a ≡ refused (numbered n [])
+      go true h rest = let e′ = rw h at e in let same : t .refusal ≡ n = cc in rw (h, same)
+      go false h rest = rw h (rest (rw h at e))
+
+  pub plain-given : (ts : List (Test ℕ)) (x : A) → answer ts a ≡ given x → answer (plain ts) a ≡ given x
+  unfolding answer
+  plain-given [] x e = let same : a ≡ x = cc in ap given same
+  plain-given (t ∷ ts) x e = go (t .holds) refl (plain-given ts x)
+    where
+      go : (h : Bool) → t .holds ≡ h → (answer ts a ≡ given x → answer (plain ts) a ≡ given x) → answer (plain (t ∷ ts)) a ≡ given x
+      go true h rest = refused-not-given (rw h at e)
+      go false h rest = rw h (rest (rw h at e))
 
 -- ---- by number: the tests stand in number order
 

@@ -18,6 +18,15 @@ pub record Test (R : Type 0) : Type 0 where
   pub refusal : R
   pub holds : Bool
 
+-- A test by its number, what it also returns, and its reason.
+abbrev pub test : ℕ → List ℕ → Bool → Test Numbered
+test n extra reason = record { refusal = numbered n extra; holds = reason }
+
+-- Tests that refuse with nothing but their number.
+abbrev pub plain : List (Test ℕ) → List (Test Numbered)
+plain [] = []
+plain (t ∷ ts) = test (t .refusal) [] (t .holds) ∷ plain ts
+
 -- An answer: a refusal, or what was asked for.
 pub data Answer (R A : Type 0) : Type 0 where
   refused : R → Answer R A
@@ -27,6 +36,11 @@ pub data Answer (R A : Type 0) : Type 0 where
 abbrev pub numberIn : {A : Type 0} → Answer ℕ A → ℕ
 numberIn (refused n) = n
 numberIn (given a) = 0
+
+-- The same where a refusal may return more.
+abbrev pub numberedIn : {A : Type 0} → Answer Numbered A → ℕ
+numberedIn (refused r) = r .number
+numberedIn (given a) = 0
 
 -- "exactly when its reason holds and no earlier test has refused"
 unfoldable pub answer : {R A : Type 0} → List (Test R) → A → Answer R A

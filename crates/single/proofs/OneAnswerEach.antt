@@ -53,6 +53,7 @@ use Rattle.settings.proofs.Correction.holds.Reads as settings-Correction-holds
 use Rattle.settings.proofs.check.Reads as settings-check
 use Rattle.settings.proofs.number.Reads as settings-number
 use Rattle.window.proofs.SingleAnswers as window
+use Rattle.window.proofs.next.Reads as window-next
 use Rattle.window.proofs.accept.Reads as window-accept
 use Rattle.window.proofs.find.Reads as window-find
 use Rattle.window.proofs.missed.Reads as window-missed
@@ -171,6 +172,7 @@ use Rattle.notice.proofs.put_fault.Reads as notice-put-fault
 use Rattle.notice.proofs.put_counts.Reads as notice-put-counts
 use Rattle.told.proofs.SingleAnswers as told
 use Rattle.told.proofs.settings_of.Reads as told-settings-of
+use Rattle.told.proofs.hearing_told.Reads as told-hearing-told
 use Rattle.told.proofs.pressure_told.Reads as told-pressure-told
 use Rattle.told.proofs.tendency_told.Reads as told-tendency-told
 use Rattle.told.proofs.wind_told.Reads as told-wind-told
@@ -245,6 +247,7 @@ pub record OneAnswerEach : Type 0 where
   pub settings-check-single : Single settings-check.Post
   pub settings-number-single : Single settings-number.Post
   -- window
+  pub window-next-single : Single window-next.Post
   pub window-accept-single : Single window-accept.Post
   pub window-accept-left : SingleLeft window-accept.Post (λ κs s. s .0 .now)
   pub window-find-single : Single window-find.Post
@@ -395,6 +398,7 @@ pub record OneAnswerEach : Type 0 where
   pub notice-put-counts-left : SingleLeft notice-put-counts.Post (λ κs s. s .0 .now)
   -- told
   pub told-settings-of-single : Single told-settings-of.Post
+  pub told-hearing-told-single : Single told-hearing-told.Post
   pub told-pressure-told-single : Single told-pressure-told.Post
   pub told-tendency-told-single : Single told-tendency-told.Post
   pub told-wind-told-single : Single told-wind-told.Post
@@ -469,6 +473,7 @@ one-answer-each =
       settings-Correction-holds-single = settings.single-correction;
       settings-check-single = settings.single-check;
       settings-number-single = settings.single-number;
+      window-next-single = window.single-next;
       window-accept-single = window.single-accept;
       window-accept-left = window.single-accept-words;
       window-find-single = window.single-find;
@@ -597,6 +602,7 @@ one-answer-each =
       notice-put-counts-single = notice.single-put-counts;
       notice-put-counts-left = notice.single-put-counts-text;
       told-settings-of-single = told.single-settings-of;
+      told-hearing-told-single = told.single-hearing-told;
       told-pressure-told-single = told.single-pressure-told;
       told-tendency-told-single = told.single-tendency-told;
       told-wind-told-single = told.single-wind-told;

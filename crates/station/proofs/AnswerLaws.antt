@@ -10,7 +10,8 @@ use Rattle.number.specs.Refusal.{Numbered, Test, Answer, refused, given, answer
 use Rattle.number.proofs.Sizes.{impossible}
 use Rattle.quantity.specs.Limits.{lastMinute}
 use Rattle.block.specs.Words.{isStore}
-use Rattle.station.specs.Questions.{Answers, noStore, tooLate}
+use Rattle.store.specs.Block.{noStore}
+use Rattle.station.specs.Questions.{Answers, tooLate}
 
 -- a refusal's number, 0 for what is given: two answers of different numbers are different
 unfoldable pub code : Answer Numbered (Unit {0}) → ℕ

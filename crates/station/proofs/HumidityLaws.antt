@@ -6,7 +6,7 @@ use mathlib.Core.List.{[], _∷_}
 use Prim.Native.Nat.{ℕ}
 use native.Mathlib.Omega.{arith}
 use lib.IntN.{ℤ, pos}
-use Rattle.number.specs.Refusal.{Numbered, numbered, Answer, refused, given, answer}
+use Rattle.number.specs.Refusal.{Numbered, numbered, test, Answer, refused, given, answer}
 use Rattle.quantity.specs.Limits.{inside, bulb, recordedPressure}
 use Rattle.settings.specs.Settings as settings
 use Rattle.vapour.specs.Vapour.{Near, water, IsTable}
@@ -16,7 +16,7 @@ use Rattle.humidity.specs.declared.HumidityFigures.{HumidityFigures}
 use Rattle.humidity.specs.declared.Moisture.{Moisture}
 use Rattle.humidity.specs.declared.Moisture.the-variants.{Given, WetAboveDry, TooDry, OutsideLimits}
 use Rattle.humidity.proofs.HumidityTheorems.{figured-then}
-use Rattle.station.specs.Questions.{Answers, test}
+use Rattle.station.specs.Questions.{Answers}
 use Rattle.station.proofs.AnswerLaws.{pass, stop, end}
 
 -- ---- which of the three tests refuses

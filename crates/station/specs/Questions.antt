@@ -5,11 +5,10 @@ use mathlib.Core.List.{List, [], _∷_, _++_}
 use Prim.Native.Nat.{ℕ, _-_}
 use lib.Dec.{eqb, ltb}
 use lib.IntN.{ℤ, _-ℤ_}
-use Rattle.number.specs.Refusal.{Numbered, numbered, Test, Answer, refused, given, answer}
+use Rattle.number.specs.Refusal.{Numbered, Test, test, Answer, refused, given, answer}
 use Rattle.quantity.specs.Limits.{lastMinute, threeHours, inside, recordedPressure}
 use Rattle.settings.specs.Settings as settings
-use Rattle.block.specs.Layout.{NO_STORE}
-use Rattle.block.specs.Words.{isStore}
+use Rattle.store.specs.Block.{noStore}
 use Rattle.store.specs.History.{isPresent}
 use Rattle.pressure.specs.Pressure.{outside, seaLevel, stationPressure}
 use Rattle.vapour.specs.Vapour.{IsTable}
@@ -25,13 +24,6 @@ use Rattle.station.specs.declared.WindAnswer.{WindAnswer}
 use Rattle.station.specs.declared.HumidityAnswer.{HumidityAnswer}
 
 -- ---- the reasons
-
-abbrev pub test : ℕ → List ℕ → Bool → Test Numbered
-test n extra reason = record { refusal = numbered n extra; holds = reason }
-
--- "a refused opening gives no store": a block that no opening marked answers no question.
-abbrev pub noStore : List ℕ → Test Numbered
-noStore s = test NO_STORE [] (not (isStore s))
 
 -- 5: "minute above 16,777,215, .. asked"
 abbrev pub tooLate : ℕ → Test Numbered

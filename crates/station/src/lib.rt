@@ -97,8 +97,8 @@ pub fn open(store: &mut Store, settings: Settings) -> Checked
     store::open(store, settings)
 }
 
-// Hears a message: it is kept, or the first of refusals 1 to 8 that holds leaves the block as it was. A block that is no store hears
-// nothing.
+// Hears a message: it is kept, or the first of refusals 1 to 8 and 19 that holds leaves the block as it was. A block that is no store
+// hears nothing.
 pub fn hear(store: &mut Store, message: &[u8]) -> Hearing
     ensures { λ r. ⌜ Hears (now (store .entry)) (now (store .exit)) (now (message .entry)) r ⌝ }
 {

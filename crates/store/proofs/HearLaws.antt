@@ -1,33 +1,48 @@
 -- From what the window answers to what the store answers, and what the block then holds. Assumes nothing.
-use mathlib.Core.Path.{_≡_, refl, sym, ap, _∙_}
-use mathlib.Core.Bool.{Bool, true, false, cond}
+use mathlib.Core.Path.{_≡_, sym, ap, _∙_}
+use mathlib.Core.Bool.{Bool, true, false}
 use mathlib.Core.List.{List}
-use Prim.Native.Nat.{ℕ}
-use Rattle.number.specs.Refusal.{refused, given}
+use Prim.Native.Nat.{ℕ, _<_}
+use lib.ListN.{length}
+use Rattle.number.specs.Refusal.{refused, given, answer}
 use Rattle.wire.specs.Decode.{numberOf}
 use Rattle.message.specs.Receive.{Entry, received}
 use Rattle.wire.specs.declared.MessageRefusal.{MessageRefusal}
-use Rattle.window.specs.Window.{Taken}
-use Rattle.cell.specs.Cells.{cellOf}
+use Rattle.window.specs.Window.{next, takes, Taken}
+use Rattle.window.proofs.AcceptLaws.{takes-later, takes-not}
+use Rattle.cell.specs.Cells.{CHANNELS, cellOf}
+use Rattle.block.specs.Layout.{WORDS}
 use Rattle.block.specs.Words.{isStore, unitOf, windowOf, replaced}
-use Rattle.store.specs.Block.{isLater, hearing, heardBy, Keeps, Hears}
+use Rattle.store.specs.Block.{newestTests, nextIn, keptBy, hearing, heardBy, heardAs, outcome, offered, Keeps, Hears}
 use Rattle.store.specs.declared.Hearing.{Hearing}
-use Rattle.store.specs.declared.Hearing.the-variants.{Heard, Refused, NotLater, NoStore}
-use Rattle.block.proofs.BlockLaws.{put-back}
+use Rattle.store.specs.declared.Hearing.the-variants.{Heard, Refused, NoStore}
+use Rattle.block.proofs.BlockLaws.{window-long, put-back}
+use Rattle.store.proofs.NewestLaws.{later, not-later}
 use Rattle.store.proofs.HearingLaws.{hears-nothing, hearing-refused, hearing-given}
 
 -- ---- one entry
 
-module _ (s : List ℕ) (e : Entry) (w : List ℕ) (r : Bool) (t : Taken (windowOf (e .channel) s) w (e .minute) (cellOf e) r) where
-  pub keeps-heard : r ≡ true → Keeps s (replaced s (e .channel) w) e Heard
-  keeps-heard h =
-      let later : isLater s e ≡ true = sym (t .answer) ∙ h in
-      record { answer = rw later; block = rw later (ap (replaced s (e .channel)) (rw later at (t .words))) }
+-- a window of a block that does not take a minute has a newest that is not before it
+pub is-behind : (s : List ℕ) (c t v : ℕ) (w : List ℕ) (r : Bool) → length s ≡ WORDS → c < CHANNELS
+    → Taken (windowOf c s) w t v r → r ≡ false → t < next (windowOf c s)
+is-behind s c t v w r long low offered f = takes-not (windowOf c s) t (window-long s c long low) (sym (offered .answer) ∙ f)
 
-  pub keeps-refused : r ≡ false → Keeps s (replaced s (e .channel) w) e NotLater
-  keeps-refused h =
-      let later : isLater s e ≡ false = sym (t .answer) ∙ h in
-      record { answer = rw later; block = rw later (ap (replaced s (e .channel)) (rw later at (t .words)) ∙ put-back s (e .channel)) }
+module _ (s : List ℕ) (e : Entry) (w : List ℕ) (r : Bool) (t : Taken (windowOf (e .channel) s) w (e .minute) (cellOf e) r) where
+  keeps-heard : r ≡ true → Keeps s (replaced s (e .channel) w) e Heard
+  keeps-heard h =
+      let taken : takes (windowOf (e .channel) s) (e .minute) ≡ true = sym (t .answer) ∙ h in
+      let is : offered s e ≡ given e = later (nextIn s (e .channel)) (e .minute) e (takes-later (windowOf (e .channel) s) (e .minute) taken) in
+      record { answer = rw is; block = rw is (ap (replaced s (e .channel)) (rw taken at (t .words))) }
+
+  keeps-refused : (h : Hearing) → r ≡ false → e .minute < nextIn s (e .channel) → heardAs h ≡ outcome (offered s e)
+      → Keeps s (replaced s (e .channel) w) e h
+  keeps-refused h f l told =
+      let taken : takes (windowOf (e .channel) s) (e .minute) ≡ false = sym (t .answer) ∙ f in
+      let is = not-later (nextIn s (e .channel)) (e .minute) e l in
+      record {
+        answer = told;
+        block = ap (replaced s (e .channel)) (rw taken at (t .words)) ∙ put-back s (e .channel) ∙ sym (ap (keptBy s) (is .1));
+      }
 
 -- the same where channel, minute and cell were worked out apart
 module _ (s : List ℕ) (e : Entry) (c t v : ℕ) (w : List ℕ) (r : Bool) (p : c ≡ e .channel) (q : t ≡ e .minute) (k : v ≡ cellOf e)
@@ -35,8 +50,9 @@ module _ (s : List ℕ) (e : Entry) (c t v : ℕ) (w : List ℕ) (r : Bool) (p :
   pub heard-at : r ≡ true → Keeps s (replaced s c w) e Heard
   heard-at h = rw p (keeps-heard s e w r (rw (p, q, k) at offered) h)
 
-  pub refused-at : r ≡ false → Keeps s (replaced s c w) e NotLater
-  refused-at h = rw p (keeps-refused s e w r (rw (p, q, k) at offered) h)
+  pub refused-at : (h : Hearing) → r ≡ false → t < next (windowOf c s) → heardAs h ≡ outcome (answer (newestTests (next (windowOf c s)) t) e)
+      → Keeps s (replaced s c w) e h
+  refused-at h f l told = rw p (keeps-refused s e w r (rw (p, q, k) at offered) h f (rw (p, q) at l) (rw (p, q) at told))
 
 -- ---- a message
 
@@ -51,11 +67,6 @@ module _ (s m : List ℕ) (is : isStore s ≡ true) where
 
   pub hears-kept : (s′ : List ℕ) (e : Entry) (h : Hearing) → received (unitOf s) m ≡ given e → Keeps s s′ e h → Hears s s′ m h
   unfolding heardBy
-  hears-kept s′ e h g k = go (isLater s e) refl
-    where
-      a : hearing s m ≡ cond (isLater s e) (given e) (refused 8)
-      a = hearing-given s m is e g
-
-      go : (b : Bool) → isLater s e ≡ b → Hears s s′ m h
-      go true l = record { answer = rw (a, l) (k .answer ∙ rw l); block = rw (a, l) (k .block ∙ rw l) }
-      go false l = record { answer = rw (a, l) (k .answer ∙ rw l); block = rw (a, l) (k .block ∙ rw l) }
+  hears-kept s′ e h g k =
+      let a : hearing s m ≡ offered s e = hearing-given s m is e g in
+      record { answer = k .answer ∙ sym (ap outcome a); block = k .block ∙ sym (ap (keptBy s) a) }

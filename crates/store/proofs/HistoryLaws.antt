@@ -11,13 +11,13 @@ use lib.Dec.{eqb, leb, lit<}
 use lib.ListN.{getD, take, length}
 use lib.Seq.{getD-take}
 use borrow.Author.Tests.{leb-true, leb-false, eqb-true, lt-ltb, le-leb, lt-leb, eq-eqb, ne-eqb}
-use Rattle.number.specs.Refusal.{Answer, refused, given, answer}
+use Rattle.number.specs.Refusal.{numbered, Answer, refused, given, answer}
 use Rattle.quantity.specs.declared.BarometerUnit.{BarometerUnit}
 use Rattle.message.specs.Receive.{Entry, received}
 use Rattle.settings.specs.Settings.{checked}
 use Rattle.settings.specs.declared.Settings.{Settings}
 use Rattle.window.specs.Layout.{MINUTES, WINDOW}
-use Rattle.window.specs.Window.{next, takes, present, accepted}
+use Rattle.window.specs.Window.{next, present, accepted}
 use Rattle.window.specs.Window as window
 use Rattle.window.specs.declared.Found.{Found}
 use Rattle.window.specs.declared.Found.the-variants.{Absent, Cell}
@@ -27,12 +27,13 @@ use Rattle.cell.specs.Cells.{CHANNELS}
 use Rattle.block.specs.Layout.{SETTINGS, WORDS}
 use Rattle.cell.specs.Cells.{cellOf, entryIn}
 use Rattle.block.specs.Words.{opened, isStore, unitOf, windowOf}
-use Rattle.store.specs.Block.{entryOfBytes, isLater, hearTests, hearing, kept, heardBy, recallIn, recallOf}
+use Rattle.store.specs.Block.{entryOfBytes, newestTests, hearTests, hearing, kept, heardBy, recallIn, recallOf}
 use Rattle.cell.specs.Cells.{Recall, absent, recalled}
 use Rattle.store.specs.History.{nextOf, grown, history, lookup, remembered, isPresent, Remembers, store-of}
 use Rattle.cell.proofs.CellLaws.{Back, received-back}
 use Rattle.block.proofs.BlockLaws.{window-long, replaced-long, here, beside, settings-stay}
 use Rattle.block.proofs.OpenedLaws.{opened-long, opened-is-store, opened-unit, opened-next}
+use Rattle.store.proofs.NewestLaws.{later, not-later}
 use Rattle.store.proofs.HearingLaws.{store-hears, hearing-refused, hearing-given, heard-refused, heard-given}
 
 -- ---- histories
@@ -225,40 +226,36 @@ changed s u M m e r g l =
         )
         (means s u M c k r)
 
--- "A message must be later than its channel's newest": as the block finds it, and by the messages.
-pub later-is : (s : List ℕ) (u : BarometerUnit) (M : List (List ℕ)) → Remembers s u M → (e : Entry) → e .channel < CHANNELS
-    → isLater s e ≡ leb (nextOf (history u (e .channel) M)) (e .minute)
-unfolding takes
-later-is s u M r e l =
-    rw (eq-eqb (length (windowOf (e .channel) s)) WINDOW (window-long s (e .channel) (r .long) l))
-    (ap (λ (n : ℕ). leb n (e .minute)) (r .newest (e .channel) l))
+-- What a message comes to that none of 1 to 7 refuses: beside the newest of the messages heard.
+pub by-newest : (s : List ℕ) (u : BarometerUnit) (M : List (List ℕ)) (m : List ℕ) → Remembers s u M → (e : Entry) → received u m ≡ given e
+    → hearing s m ≡ answer (newestTests (nextOf (history u (e .channel) M)) (e .minute)) e
+by-newest s u M m r e g =
+    hearing-given s m (r .is-store) e (subst (λ (v : BarometerUnit). received v m ≡ given e) (sym (r .unit)) g)
+    ∙ ap (λ (n : ℕ). answer (newestTests n (e .minute)) e) (r .newest (e .channel) (received-back u m e g .1))
 
 pub heard-remembers : (s : List ℕ) (u : BarometerUnit) (M : List (List ℕ)) (m : List ℕ) → Remembers s u M → Remembers (heardBy s m) u (m ∷ M)
 heard-remembers s u M m r = go (received u m) refl
   where
-    seen : (a : Answer ℕ Entry) → received u m ≡ a → received (unitOf s) m ≡ a
-    seen a g = subst (λ (v : BarometerUnit). received v m ≡ a) (sym (r .unit)) g
-
-    hears : (e : Entry) → received u m ≡ given e → (b : Bool) → leb (nextOf (history u (e .channel) M)) (e .minute) ≡ b
-        → hearing s m ≡ cond b (given e) (refused 8)
-    hears e g b t =
-        hearing-given s m (r .is-store) e (seen (given e) g)
-        ∙ ap (λ (x : Bool). cond x (given e) (refused 8)) (later-is s u M r e (received-back u m e g .1) ∙ t)
-
     by-time : (e : Entry) → received u m ≡ given e → (b : Bool) → leb (nextOf (history u (e .channel) M)) (e .minute) ≡ b
         → Remembers (heardBy s m) u (m ∷ M)
     by-time e g true t =
-        subst (λ (x : List ℕ). Remembers x u (m ∷ M)) (sym (heard-given s m e (hears e g true t)))
-        (changed s u M m e r g (leb-true (nextOf (history u (e .channel) M)) (e .minute) t))
+        let l = leb-true (nextOf (history u (e .channel) M)) (e .minute) t in
+        subst (λ (x : List ℕ). Remembers x u (m ∷ M))
+        (sym (heard-given s m e (by-newest s u M m r e g ∙ later (nextOf (history u (e .channel) M)) (e .minute) e l)))
+        (changed s u M m e r g l)
     by-time e g false t =
-        unchanged s u M m r (λ c. history-step u c M m g ∙ grown-early c (history u c M) e (early c)) (heard-refused s m 8 (hears e g false t))
+        let l = leb-false (nextOf (history u (e .channel) M)) (e .minute) t in
+        let no = not-later (nextOf (history u (e .channel) M)) (e .minute) e l in
+        unchanged s u M m r (λ c. history-step u c M m g ∙ grown-early c (history u c M) e (early c l))
+        (heard-refused s m (no .0) (by-newest s u M m r e g ∙ no .1))
       where
-        early : (c : ℕ) → e .channel ≡ c → e .minute < nextOf (history u c M)
-        early c p =
-            subst (λ (d : ℕ). e .minute < nextOf (history u d M)) p (leb-false (nextOf (history u (e .channel) M)) (e .minute) t)
+        early : (c : ℕ) → e .minute < nextOf (history u (e .channel) M) → e .channel ≡ c → e .minute < nextOf (history u c M)
+        early c l p = subst (λ (d : ℕ). e .minute < nextOf (history u d M)) p l
 
     go : (a : Answer ℕ Entry) → received u m ≡ a → Remembers (heardBy s m) u (m ∷ M)
-    go (refused n) g = unchanged s u M m r (λ c. history-step u c M m g) (heard-refused s m n (hearing-refused s m (r .is-store) n (seen (refused n) g)))
+    go (refused n) g =
+        let seen : received (unitOf s) m ≡ refused n = subst (λ (v : BarometerUnit). received v m ≡ refused n) (sym (r .unit)) g in
+        unchanged s u M m r (λ c. history-step u c M m g) (heard-refused s m (numbered n []) (hearing-refused s m (r .is-store) n seen))
     go (given e) g = by-time e g (leb (nextOf (history u (e .channel) M)) (e .minute)) refl
 
 -- ---- the store
@@ -271,7 +268,7 @@ store-remembers g good (m ∷ M) = heard-remembers (store-of g M) (g .unit) M m 
 pub store-is-open : (g : Settings) → checked g ≡ given tt → (M : List (List ℕ)) → isStore (store-of g M) ≡ true
 store-is-open g good M = store-remembers g good M .is-store
 
--- So it puts every message to the tests of document 01.
+-- So it puts every message to the tests of the documents.
 pub open-hears : (g : Settings) → checked g ≡ given tt → (M : List (List ℕ)) (m : List ℕ)
     → hearing (store-of g M) m ≡ answer (hearTests (store-of g M) m) (entryOfBytes (store-of g M) m)
 open-hears g good M m = store-hears (store-of g M) m (store-is-open g good M)

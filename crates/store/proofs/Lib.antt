@@ -1,7 +1,10 @@
 pub mod OpenLaws
+pub mod NewestLaws
 pub mod HearingLaws
 pub mod HearLaws
 pub mod HistoryLaws
 pub mod StoreTheorems
 pub mod SingleAnswers
 pub mod RefusalsInOrder
+pub mod NewestTheorems
+pub mod KeptAsBefore

@@ -1,10 +1,11 @@
 -- Each public contract of this crate allows a single answer, and `open` and `hear` a single block to be left. Assumes nothing.
 use mathlib.Core.Path.{_≡_, refl, sym, ap, _∙_}
 use mathlib.Core.Bool.{cond}
+use mathlib.Core.List.{List, [], _∷_}
 use Prim.Native.Nat.{ℕ}
 use lib.Dec.{eqb}
 use Rattle.number.specs.Single.{Single, SingleLeft}
-use Rattle.number.specs.Refusal.{Answer, refused, given}
+use Rattle.number.specs.Refusal.{Numbered, Answer, refused, given}
 use Rattle.wire.proofs.SingleAnswers.{refusal}
 use Rattle.wire.specs.declared.MessageRefusal.{MessageRefusal}
 use Rattle.wire.specs.declared.MessageRefusal.the-variants.{NotSixteenBytes, NoSuchChannel, ByteNotZero, WetBulbNotWater, MinuteTooLate, NotFinite, OutsideLimits}
@@ -13,7 +14,7 @@ use Rattle.cell.proofs.SingleAnswers.{recall-of, recall-back}
 use Rattle.block.specs.Layout.{NO_STORE}
 use Rattle.store.specs.Block.{heardAs}
 use Rattle.store.specs.declared.Hearing.{Hearing}
-use Rattle.store.specs.declared.Hearing.the-variants.{Heard, Refused, NotLater, NoStore}
+use Rattle.store.specs.declared.Hearing.the-variants.{Heard, Refused, Repeated, Late, NoStore}
 use Rattle.store.proofs.number.Reads as number
 use Rattle.store.proofs.«open».Reads as opening
 use Rattle.store.proofs.hear.Reads as hear
@@ -33,8 +34,15 @@ single-open-left κs a r r′ s s′ p q = p .1 ∙ sym (q .1)
 
 -- ---- hear
 
-pub hearing-of : Answer ℕ (Unit {0}) → Hearing
-hearing-of (refused n) = cond (eqb n 8) NotLater (cond (eqb n NO_STORE) NoStore (Refused (refusal n)))
+abbrev minutes-late : List ℕ → ℕ
+minutes-late [] = 0
+minutes-late (minutes ∷ more) = minutes
+
+abbrev refused-of : ℕ → List ℕ → Hearing
+refused-of n extra = cond (eqb n 8) Repeated (cond (eqb n 19) (Late (minutes-late extra)) (cond (eqb n NO_STORE) NoStore (Refused (refusal n))))
+
+unfoldable pub hearing-of : Answer Numbered (Unit {0}) → Hearing
+hearing-of (refused r) = refused-of (r .number) (r .extra)
 hearing-of (given a) = Heard
 
 pub hearing-back : (h : Hearing) → hearing-of (heardAs h) ≡ h
@@ -50,7 +58,8 @@ hearing-back (Refused r) = go r
     go MinuteTooLate = refl
     go NotFinite = refl
     go OutsideLimits = refl
-hearing-back NotLater = refl
+hearing-back Repeated = refl
+hearing-back (Late minutes) = refl
 hearing-back NoStore = refl
 
 pub single-hear : Single hear.Post

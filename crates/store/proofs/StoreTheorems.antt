@@ -8,7 +8,7 @@ use native.Mathlib.Omega.{arith}
 use lib.Dec.{eqb, leb}
 use lib.ListN.{take, length}
 use borrow.Author.Tests.{leb-true, lt-ltb, eq-eqb, ne-eqb}
-use Rattle.number.specs.Refusal.{Answer, refused, given}
+use Rattle.number.specs.Refusal.{Numbered, numbered, Answer, refused, given}
 use Rattle.number.proofs.Sizes.{never, either-way, and-true}
 use Rattle.quantity.specs.Limits.{minutesBetween}
 use Rattle.quantity.specs.declared.BarometerUnit.{BarometerUnit}
@@ -36,11 +36,11 @@ use Rattle.store.proofs.HistoryLaws.{remembered-in, remembered-gone, re
 
 -- "a refused opening gives no store": a block that was none still hears nothing.
 pub refused-opening-gives-no-store : (s m : List ℕ) (g : Settings) (n : ℕ) → checked g ≡ refused n → isStore s ≡ false
-    → hearing (openedBy s g) m ≡ refused NO_STORE
+    → hearing (openedBy s g) m ≡ refused (numbered NO_STORE [])
 refused-opening-gives-no-store s m g n e is = hears-nothing (openedBy s g) m (ap isStore (sym (opens-not s g n e)) ∙ is)
 
 -- "A refused message changes nothing"
-pub refused-changes-nothing : (s m : List ℕ) (n : ℕ) → hearing s m ≡ refused n → heardBy s m ≡ s
+pub refused-changes-nothing : (s m : List ℕ) (n : Numbered) → hearing s m ≡ refused n → heardBy s m ≡ s
 refused-changes-nothing s m n h = heard-refused s m n h
 
 -- ---- what a message that was heard leaves as it was
@@ -68,7 +68,7 @@ module _ (s m : List ℕ) (long : length s ≡ WORDS) where
   pub settings-stay-heard : take SETTINGS (heardBy s m) ≡ take SETTINGS s
   settings-stay-heard = go (hearing s m) refl
     where
-      go : (a : Answer ℕ Entry) → hearing s m ≡ a → take SETTINGS (heardBy s m) ≡ take SETTINGS s
+      go : (a : Answer Numbered Entry) → hearing s m ≡ a → take SETTINGS (heardBy s m) ≡ take SETTINGS s
       go (refused n) h = ap (take SETTINGS) (heard-refused s m n h)
       go (given e) h = given-settings-stay e h
 

@@ -2,9 +2,9 @@
 use mathlib.Core.Path.{_≡_}
 use mathlib.Core.Bool.{Bool, true, false, not, cond}
 use mathlib.Core.List.{List, [], _∷_, _++_}
-use Prim.Native.Nat.{ℕ}
-use lib.Dec.{ltb}
-use Rattle.number.specs.Refusal.{Test, Answer, refused, given, answer}
+use Prim.Native.Nat.{ℕ, _+_, _-_}
+use lib.Dec.{eqb, ltb}
+use Rattle.number.specs.Refusal.{Numbered, numbered, Test, test, plain, Answer, refused, given, answer}
 use Rattle.quantity.specs.Limits.{minutesBetween}
 use Rattle.quantity.specs.declared.BarometerUnit.{BarometerUnit}
 use Rattle.wire.specs.Bytes.{minute}
@@ -12,7 +12,7 @@ use Rattle.wire.specs.Decode.{message, numberOf}
 use Rattle.message.specs.Receive.{Entry, entry, tests}
 use Rattle.settings.specs.Settings.{checked}
 use Rattle.settings.specs.declared.Settings.{Settings}
-use Rattle.window.specs.Window.{takes, accepted, present, absents}
+use Rattle.window.specs.Window.{next, accepted, present, absents}
 use Rattle.window.specs.Window as window
 use Rattle.window.specs.declared.Found.{Found}
 use Rattle.window.specs.declared.Found.the-variants.{Absent, Cell}
@@ -20,7 +20,7 @@ use Rattle.cell.specs.Cells.{CHANNELS, cellOf, Recall, absent, cellSays}
 use Rattle.block.specs.Layout.{NO_STORE}
 use Rattle.block.specs.Words.{opened, isStore, unitOf, windowOf, replaced}
 use Rattle.store.specs.declared.Hearing.{Hearing}
-use Rattle.store.specs.declared.Hearing.the-variants.{Heard, Refused, NotLater, NoStore}
+use Rattle.store.specs.declared.Hearing.the-variants.{Heard, Refused, Repeated, Late, NoStore}
 
 -- A block after an opening with these settings: "a refused opening gives no store", and leaves the block as it was.
 abbrev pub isGiven : {A : Type 0} → Answer ℕ A → Bool
@@ -36,27 +36,32 @@ openedBy s g = cond (isGiven (checked g)) (opened g) s
 abbrev pub entryOfBytes : List ℕ → List ℕ → Entry
 entryOfBytes s m = entry (unitOf s) (minute m) (message m)
 
--- "A message must be later than its channel's newest."
-abbrev pub isLater : List ℕ → Entry → Bool
-isLater s e = takes (windowOf (e .channel) s) (e .minute)
+-- "8, minute equal to the newest, and 19, minute earlier, which returns the difference; 19 stands directly after 8." The minute after
+-- the newest is `next`: it is 0 where there is no newest, and then neither holds.
+abbrev pub newestTests : ℕ → ℕ → List (Test Numbered)
+newestTests next m = test 8 [] (eqb (m + 1) next) ∷ test 19 ((next - (m + 1)) ∷ []) (ltb (m + 1) next) ∷ []
 
--- "Numbered refusals", 1 to 8, in number order. 8: "not later than the channel's newest"
-abbrev pub hearTests : List ℕ → List ℕ → List (Test ℕ)
-hearTests s m = tests (unitOf s) m ++ (record { refusal = 8; holds = not (isLater s (entryOfBytes s m)) } ∷ [])
+-- The minute after a channel's newest.
+abbrev pub nextIn : List ℕ → ℕ → ℕ
+nextIn s c = next (windowOf c s)
 
--- "a refused opening gives no store": a block that no opening marked hears nothing.
-abbrev pub unopened : List ℕ → Test ℕ
-unopened s = record { refusal = NO_STORE; holds = not (isStore s) }
+-- The refusals of a message, 1 to 8 and 19, in this order.
+abbrev pub hearTests : List ℕ → List ℕ → List (Test Numbered)
+hearTests s m = let e = entryOfBytes s m in plain (tests (unitOf s) m) ++ newestTests (nextIn s (e .channel)) (e .minute)
+
+-- "a refused opening gives no store": a block that no opening marked hears nothing, and answers no question.
+abbrev pub noStore : List ℕ → Test Numbered
+noStore s = test NO_STORE [] (not (isStore s))
 
 -- What a message comes to: whether there is a store to hear it is tested first.
-unfoldable pub hearing : List ℕ → List ℕ → Answer ℕ Entry
-hearing s m = answer (unopened s ∷ hearTests s m) (entryOfBytes s m)
+unfoldable pub hearing : List ℕ → List ℕ → Answer Numbered Entry
+hearing s m = answer (noStore s ∷ hearTests s m) (entryOfBytes s m)
 
 -- The block after a message: "A refused message changes nothing"; what is kept changes its channel's part alone.
 abbrev pub kept : List ℕ → Entry → List ℕ
 kept s e = replaced s (e .channel) (accepted (windowOf (e .channel) s) (e .minute) (cellOf e))
 
-abbrev pub keptBy : List ℕ → Answer ℕ Entry → List ℕ
+abbrev pub keptBy : {R : Type 0} → List ℕ → Answer R Entry → List ℕ
 keptBy s (refused n) = s
 keptBy s (given e) = kept s e
 
@@ -77,22 +82,27 @@ recallOf s c m = cond (ltb c CHANNELS) (recallIn (unitOf s) c m (window.kept (wi
 unfoldable pub absentOf : List ℕ → ℕ → ℕ → ℕ
 absentOf s c m = cond (ltb c CHANNELS) (absents (present (windowOf c s)) m minutesBetween) minutesBetween
 
--- ---- document 01's number and values of each case, and the number of a block that is no store
+-- ---- the documents' number and values of each case, and the number of a block that is no store
 
-abbrev pub heardAs : Hearing → Answer ℕ (Unit {0})
+abbrev pub heardAs : Hearing → Answer Numbered (Unit {0})
 heardAs Heard = given tt
-heardAs (Refused r) = refused (numberOf r)
-heardAs NotLater = refused 8
-heardAs NoStore = refused NO_STORE
+heardAs (Refused r) = refused (numbered (numberOf r) [])
+heardAs Repeated = refused (numbered 8 [])
+heardAs (Late minutes) = refused (numbered 19 (minutes ∷ []))
+heardAs NoStore = refused (numbered NO_STORE [])
 
-abbrev pub outcome : Answer ℕ Entry → Answer ℕ (Unit {0})
+abbrev pub outcome : {R : Type 0} → Answer R Entry → Answer R (Unit {0})
 outcome (refused n) = refused n
 outcome (given e) = given tt
 
+-- What an entry comes to, by its channel's newest.
+abbrev pub offered : List ℕ → Entry → Answer Numbered Entry
+offered s e = answer (newestTests (nextIn s (e .channel)) (e .minute)) e
+
 -- An entry was offered to the store, and answered by h.
 pub record Keeps (s s′ : List ℕ) (e : Entry) (h : Hearing) : Type 0 where
-  pub answer : heardAs h ≡ cond (isLater s e) (given tt) (refused 8)
-  pub block : s′ ≡ cond (isLater s e) (kept s e) s
+  pub answer : heardAs h ≡ outcome (offered s e)
+  pub block : s′ ≡ keptBy s (offered s e)
 
 -- A message was heard, and answered by h.
 pub record Hears (s s′ m : List ℕ) (h : Hearing) : Type 0 where

@@ -2,13 +2,13 @@
 ghost use mathlib.Core.Path.{_≡_};
 ghost use Prim.Native.Nat.{ℕ, _<_};
 ghost use lib.ListN.{length};
-ghost use Rattle.number.specs.Refusal.{numberIn};
+ghost use Rattle.number.specs.Refusal.{answer, numberedIn};
 ghost use Rattle.settings.specs.Settings.{checked, checkedAs};
-ghost use Rattle.message.specs.Receive.{entryOf};
+ghost use Rattle.message.specs.Receive.{Entry, entryOf};
 ghost use Rattle.cell.specs.Cells.{CHANNELS, recalledAs};
 ghost use Rattle.block.specs.Layout.{WORDS};
 ghost use Rattle.block.specs.Words.{windowOf};
-ghost use Rattle.store.specs.Block.{openedBy, heardAs, recallOf, absentOf, Keeps, Hears};
+ghost use Rattle.store.specs.Block.{openedBy, heardAs, newestTests, outcome, recallOf, absentOf, Keeps, Hears};
 use block::NO_STORE;
 use block::SETTINGS;
 use block::Store;
@@ -27,20 +27,23 @@ pub enum Hearing {
     Heard,
     // 1 to 7
     Refused(MessageRefusal),
-    // 8
-    NotLater,
+    // 8: the minute is that of the channel's newest
+    Repeated,
+    // 19: it is earlier, by so many minutes
+    Late(u64),
     // none of document 01's: the block is no store
     NoStore,
 }
 
-// Document 01's number of what hearing comes to: 0 for what is heard, and `NO_STORE` from a block that is no store.
+// The documents' number of what hearing comes to: 0 for what is heard, and `NO_STORE` from a block that is no store.
 pub fn number(h: Hearing) -> u32
-    ensures { λ n. ⌜ n ≡ numberIn (heardAs h) ⌝ }
+    ensures { λ n. ⌜ n ≡ numberedIn (heardAs h) ⌝ }
 {
     match h {
         Hearing::Heard => 0,
         Hearing::Refused(r) => wire::number(r),
-        Hearing::NotLater => 8,
+        Hearing::Repeated => 8,
+        Hearing::Late(_) => 19,
         Hearing::NoStore => NO_STORE,
     }
 }
@@ -78,6 +81,18 @@ fn channel_of(r: Reading) -> usize
     }
 }
 
+// Why a minute that is not later than the newest is refused. `next` is the minute after the newest.
+fn why(next: u64, minute: u32) -> Hearing
+    requires { ⌜ minute < next ⌝ }
+    ensures { λ h. ⌜ ((e : Entry) → heardAs h ≡ outcome (answer (newestTests next minute) e)) ⌝ }
+{
+    let after = minute as u64 + 1;
+    if after == next {
+        return Hearing::Repeated;
+    }
+    Hearing::Late(next - after)
+}
+
 // Keeps a reading in its channel's part of the block, if it is later than the channel's newest.
 fn keep(store: &mut [u64], minute: u32, r: Reading) -> Hearing
     requires { ⌜ length (now store) ≡ WORDS ⌝ }
@@ -87,14 +102,15 @@ fn keep(store: &mut [u64], minute: u32, r: Reading) -> Hearing
     let v = cell::cell_of(r);
     let a = SETTINGS + c * WINDOW;
     let e = a + WINDOW;
+    let next = window::next(&store[a..e]);
     if window::accept(&mut store[a..e], minute, v) {
         return Hearing::Heard;
     }
-    Hearing::NotLater
+    why(next, minute)
 }
 
-// Hears a message: it is kept, or the first of refusals 1 to 8 that holds is given and the block stays as it was. So does a block
-// that is no store, which hears nothing.
+// Hears a message: it is kept, or the first of refusals 1 to 8 and 19 that holds is given and the block stays as it was. So does a
+// block that is no store, which hears nothing.
 pub fn hear(store: &mut Store, bytes: &[u8]) -> Hearing
     ensures { λ r. ⌜ Hears (now (store .entry)) (now (store .exit)) (now (bytes .entry)) r ⌝ }
 {

@@ -9,11 +9,25 @@ use Rattle.humidity.specs.declared.HumidityFigures.{HumidityFigures}
 use Rattle.station.specs.Told.{Change}
 use Rattle.station.specs.Questions.{Asked, question}
 use Rattle.station.specs.Questions as asked
+use Rattle.told.specs.declared.HearTold.{HearTold}
 use Rattle.told.specs.declared.Refusal.{Refusal}
 use Rattle.told.specs.declared.PressureTold.{PressureTold}
 use Rattle.told.specs.declared.TendencyTold.{TendencyTold}
 use Rattle.told.specs.declared.WindTold.{WindTold}
 use Rattle.told.specs.declared.HumidityTold.{HumidityTold}
+
+-- ---- hearing
+
+-- 19 also returns "the difference", in minutes.
+abbrev pub lateIn : List ℕ → ℕ
+lateIn [] = 0
+lateIn (minutes ∷ more) = minutes
+
+abbrev pub heardIn : Answer Numbered (Unit {0}) → HearTold
+heardIn (refused r) = record { number = r .number; late = lateIn (r .extra) }
+heardIn (given a) = record { number = 0; late = 0 }
+
+-- ---- questions
 
 -- 11 also returns "channel, minute", 12 "minute".
 abbrev pub channelIn : List ℕ → ℕ

@@ -1,8 +1,9 @@
 // Settings and answers as C sees them: document 01's number, what a refusal also returns, and figures. A number of 0 says that
 // nothing was refused.
 ghost use mathlib.Core.Path.{_≡_};
+ghost use Rattle.store.specs.Block.{heardAs};
 ghost use Rattle.station.specs.Told.{refusalOf, pressureAs, tendencyAs, windAs, humidityAs};
-ghost use Rattle.told.specs.Told.{refusalIn, pressureIn, tendencyIn, windIn, humidityIn};
+ghost use Rattle.told.specs.Told.{heardIn, refusalIn, pressureIn, tendencyIn, windIn, humidityIn};
 ghost use Rattle.told.specs.Opening.{unitIn, settingsIn};
 use number::Kept;
 use number::Number;
@@ -20,6 +21,7 @@ use station::QuestionRefusal;
 use station::Refused;
 use station::TendencyAnswer;
 use station::WindAnswer;
+use store::Hearing;
 
 // The settings of a store. The unit is 0 for hPa and 1 for mm Hg.
 #[repr(C)]
@@ -31,6 +33,13 @@ pub struct StoreSettings {
     pub psychrometer: PsychrometerCoefficient,
     pub count: u32,
     pub points: [Point; POINTS],
+}
+
+// What hearing a message came to: the number, and the minutes where it was late, 19.
+#[repr(C)]
+pub struct HearTold {
+    pub number: u32,
+    pub late: u64,
 }
 
 // Why a question is refused: the number, and the channel and the minute where it returns them.
@@ -109,6 +118,19 @@ pub fn settings_of(s: StoreSettings) -> Settings
         psychrometer,
         count: s.count,
         points,
+    }
+}
+
+// ---- hearing
+
+// What hearing came to, as a number with the minutes that the message was late.
+pub fn hearing_told(h: Hearing) -> HearTold
+    ensures { λ r. ⌜ r ≡ heardIn (heardAs h) ⌝ }
+{
+    let number = store::number(h);
+    match h {
+        Hearing::Late(late) => HearTold { number, late },
+        _ => HearTold { number, late: 0 },
     }
 }
 

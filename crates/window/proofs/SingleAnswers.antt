@@ -2,9 +2,13 @@
 -- `accept` also the words that it leaves. Assumes nothing.
 use mathlib.Core.Path.{_≡_, sym, _∙_}
 use Rattle.number.specs.Single.{Single, SingleLeft}
+use Rattle.window.proofs.next.Reads as next
 use Rattle.window.proofs.accept.Reads as accept
 use Rattle.window.proofs.find.Reads as find
 use Rattle.window.proofs.missed.Reads as missed
+
+pub single-next : Single next.Post
+single-next κs a r r′ s s′ p q = p ∙ sym q
 
 pub single-accept : Single accept.Post
 single-accept κs a r r′ s s′ p q = p .answer ∙ sym (q .answer)

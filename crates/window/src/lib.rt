@@ -5,7 +5,7 @@ ghost use Prim.Native.Nat.{ℕ, _+_, _-_, _*_, _/_, _%_, _^_, _≤_, _<_, min, m
 ghost use lib.ListN.{length, getD};
 ghost use Rattle.window.specs.Layout.{MINUTES, WINDOW, wordOf, cellOf};
 ghost use Rattle.window.specs.Bits.{bit, cleared, marked, total};
-ghost use Rattle.window.specs.Window.{bitOf, present, kept, clear, mark, wiped, accepted, Taken, absents};
+ghost use Rattle.window.specs.Window.{next, bitOf, present, kept, clear, mark, wiped, accepted, Taken, absents};
 
 // Minutes kept for a channel: the newest and those before it.
 pub const MINUTES: u64 = 256;
@@ -163,6 +163,16 @@ fn keep(window: &mut [u64], m: u64, value: u64)
     let k = cell_of(m);
     window[k] = value;
     window[NEXT] = m + 1;
+}
+
+// The minute after the newest; 0 where nothing was heard.
+pub fn next(window: &[u64]) -> u64
+    ensures { λ r. ⌜ r ≡ next (now (window .entry)) ⌝ }
+{
+    if window.len() == 0 {
+        return 0;
+    }
+    window[NEXT]
 }
 
 // Takes a value for a minute, if it is later than the newest: true, and the value is kept; else false, and nothing changes.

@@ -7,7 +7,8 @@ use denote.Ref.{now}
 use Rattle.number.specs.Single.{Single, SingleLeft}
 use Rattle.watchfile.proofs.DewRules.{the-rule}
 use Rattle.station.specs.Source.{held}
-use Rattle.station.specs.Questions.{Asked, Reply, question, noStore, foreignTo}
+use Rattle.store.specs.Block.{noStore}
+use Rattle.station.specs.Questions.{Asked, Reply, question, foreignTo}
 use Rattle.station.specs.Questions as asked
 use Rattle.station.proofs.SingleAnswers.{one-reply}
 use Rattle.told.specs.Told.{Told, toldIn}

@@ -14,9 +14,10 @@ use Rattle.watchfile.specs.Format.{writing}
 use Rattle.watchfile.specs.declared.Record.{Record}
 use Rattle.octets.specs.Lent.{sized, leftBy}
 use Rattle.listing.specs.Listing.{listing}
-use Rattle.told.specs.Told.{Told, toldIn}
+use Rattle.told.specs.Told.{heardIn, Told, toldIn}
 use Rattle.told.specs.Opening.{settingsIn}
 use Rattle.told.specs.declared.StoreSettings.{StoreSettings}
+use Rattle.told.specs.declared.HearTold.{HearTold}
 use Rattle.filed.specs.Files.{writeIn, listIn}
 use Rattle.filed.specs.declared.WriteTold.{WriteTold}
 use Rattle.filed.specs.declared.ListTold.{ListTold}
@@ -33,8 +34,8 @@ pub record OpenedAs (s s′ : List ℕ) (g : StoreSettings) (r : ℕ) : Type 0 w
   pub block : s′ ≡ cond (noUnit g) s (openedBy s (settingsIn g))
 
 -- A message was heard, and answered by r.
-pub record HeardAs (s s′ m : List ℕ) (r : ℕ) : Type 0 where
-  pub answer : r ≡ numberIn (outcome (hearing s m))
+pub record HeardAs (s s′ m : List ℕ) (r : HearTold) : Type 0 where
+  pub answer : r ≡ heardIn (outcome (hearing s m))
   pub block : s′ ≡ heardBy s m
 
 -- ---- questions

@@ -16,6 +16,7 @@ use filed::FileRecords;
 use filed::FileTold;
 use filed::ListTold;
 use filed::WriteTold;
+use told::HearTold;
 use told::HumidityTold;
 use told::PressureTold;
 use told::StoreSettings;
@@ -36,12 +37,13 @@ pub extern "C" fn zhitomrak_open(store: &mut Store, settings: StoreSettings) -> 
     settings::number(station::open(store, told::settings_of(settings)))
 }
 
-// Hears a message: 0, and it is kept; or 1 to 8, and the block stays as it was. So does one that was never opened: 255.
+// Hears a message: 0, and it is kept; or 1 to 8, or 19 with the minutes that it is late, and the block stays as it was. So does one
+// that was never opened: 255.
 #[no_mangle]
-pub extern "C" fn zhitomrak_hear(store: &mut Store, message: &[u8]) -> u32
+pub extern "C" fn zhitomrak_hear(store: &mut Store, message: &[u8]) -> HearTold
     ensures { λ r. ⌜ HeardAs (now (store .entry)) (now (store .exit)) (now (message .entry)) r ⌝ }
 {
-    store::number(station::hear(store, message))
+    told::hearing_told(station::hear(store, message))
 }
 
 // ---- questions: of a block that was never opened the answer is 255

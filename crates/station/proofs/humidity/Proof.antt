@@ -23,7 +23,8 @@ use Rattle.humidity.specs.declared.HumidityFigures.{HumidityFigures}
 use Rattle.humidity.specs.declared.Moisture.{Moisture}
 use Rattle.humidity.specs.declared.Moisture.the-variants.{Given, WetAboveDry, TooDry, OutsideLimits}
 use Rattle.station.specs.Source.{held, first, inCelsius, readingAt}
-use Rattle.station.specs.Questions.{Answers, noStore, tooLate, missingAt, dryAt, wetAt, stationAt, HumidityRule, humidityTests, foreign}
+use Rattle.store.specs.Block.{noStore}
+use Rattle.station.specs.Questions.{Answers, tooLate, missingAt, dryAt, wetAt, stationAt, HumidityRule, humidityTests, foreign}
 use Rattle.station.specs.Parts.{Shows}
 use Rattle.station.specs.declared.Shown.{Shown}
 use Rattle.station.specs.declared.Shown.the-variants as shown

@@ -3,7 +3,8 @@ use mathlib.Core.Path.{_≡_, refl, subst}
 use mathlib.Core.List.{_∷_}
 use denote.Ref.{now}
 use Rattle.station.specs.Source.{held}
-use Rattle.station.specs.Questions.{Answers, noStore, pressureTests, PressureRule}
+use Rattle.store.specs.Block.{noStore}
+use Rattle.station.specs.Questions.{Answers, pressureTests, PressureRule}
 use Rattle.station.specs.Parts.{TellsAt, atAs}
 use Rattle.station.specs.declared.AtMinute.{AtMinute}
 use Rattle.station.specs.declared.AtMinute.the-variants.{NotKept, Outside, SeaLevel}

@@ -11,7 +11,8 @@ use Rattle.number.specs.Refusal.{Numbered, Test, Answer}
 use Rattle.quantity.specs.Limits.{threeHours}
 use Rattle.pressure.specs.Pressure.{outside}
 use Rattle.station.specs.Source.{Source, held, readingAt}
-use Rattle.station.specs.Questions.{Answers, noStore, tooLate, noThreeHours, missingAt, seaLevelAt, TendencyRule, PressureRule}
+use Rattle.store.specs.Block.{noStore}
+use Rattle.station.specs.Questions.{Answers, tooLate, noThreeHours, missingAt, seaLevelAt, TendencyRule, PressureRule}
 use Rattle.station.specs.Told.{Change}
 use Rattle.station.specs.Parts.{TellsAt}
 use Rattle.station.proofs.AnswerLaws.{no-store, too-late, both-pass, pass, stop, end}

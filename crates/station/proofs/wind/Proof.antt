@@ -17,7 +17,8 @@ use Rattle.wind.specs.Answer.{IsWind}
 use Rattle.wind.specs.declared.TrueWind.{TrueWind}
 use Rattle.wind.specs.declared.TrueWind.the-variants.{Blows, OutsideLimits}
 use Rattle.station.specs.Source.{held, inMetresPerSecond, inKnots, inDegrees}
-use Rattle.station.specs.Questions.{Answers, noStore, tooLate, missingAt, WindRule}
+use Rattle.store.specs.Block.{noStore}
+use Rattle.station.specs.Questions.{Answers, tooLate, missingAt, WindRule}
 use Rattle.station.proofs.AnswerLaws.{no-store, too-late, both-pass, pass, stop, end}
 use Rattle.station.proofs.KeptLaws.{not-kept, is-kept, no-other}
 use Rattle.station.proofs.WindLaws.{kept-within, wind-of}
