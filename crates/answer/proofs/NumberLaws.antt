@@ -1,6 +1,6 @@
 -- No refusal has the number 0: the line of what opening and hearing come to is that of their number. Assumes nothing.
-use mathlib.Core.Path.{_≡_, refl}
-use mathlib.Core.Bool.{Bool, true, false}
+use mathlib.Core.Path.{_≡_, refl, sym}
+use mathlib.Core.Bool.{false}
 use mathlib.Core.List.{List}
 use Prim.Native.Nat.{ℕ}
 use Rattle.number.specs.Refusal.{numberIn, numberedIn}
@@ -14,6 +14,7 @@ use Rattle.store.specs.Block.{heardAs}
 use Rattle.store.specs.declared.Hearing.{Hearing}
 use Rattle.store.specs.declared.Hearing.the-variants.{Heard, Refused, Repeated, Late, NoStore}
 use Rattle.text.specs.Letters.{letters}
+use Rattle.store.proofs.LateLaws.{isLate}
 use Rattle.answer.specs.Answer.{wordLine, numberLine, hearingLine}
 
 module _ (word : List ℕ) where
@@ -22,14 +23,7 @@ module _ (word : List ℕ) where
   opening-line settings.OutsideLimits = refl
   opening-line settings.CertificateBroken = refl
 
--- whether a message was late: then its line has more than a number
-abbrev isLate : Hearing → Bool
-isLate Heard = false
-isLate (Refused r) = false
-isLate Repeated = false
-isLate (Late minutes) = true
-isLate NoStore = false
-
+-- a message that was late has more than a number in its line
 pub hearing-line : (h : Hearing) → isLate h ≡ false → numberLine (letters "heard") (numberedIn (heardAs h)) ≡ hearingLine h
 hearing-line Heard e = refl
 hearing-line (Refused r) e = go r
@@ -43,5 +37,5 @@ hearing-line (Refused r) e = go r
     go message.NotFinite = refl
     go message.OutsideLimits = refl
 hearing-line Repeated e = refl
-hearing-line (Late minutes) e = never e
+hearing-line (Late minutes) e = never (sym e)
 hearing-line NoStore e = refl

@@ -2,6 +2,7 @@ pub mod OpenLaws
 pub mod NewestLaws
 pub mod HearingLaws
 pub mod HearLaws
+pub mod LateLaws
 pub mod HistoryLaws
 pub mod StoreTheorems
 pub mod SingleAnswers
