@@ -126,8 +126,8 @@ fn message(r: &mut Random) -> [u8; 16] {
 
 /// How many lines were compared, or the first that differs.
 fn compare(program: &str, unit: &str, sent: &[u8]) -> Result<usize, String> {
-    let mut child = Command::new(program)
-        .arg(unit)
+    let mut child = Command::new("tests/x86")
+        .args([program, unit])
         .stdin(Stdio::piped())
         .stdout(Stdio::piped())
         .spawn()

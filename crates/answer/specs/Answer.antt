@@ -1,4 +1,4 @@
--- The station's answers as lines of text: a letter, the minute and the figures in order, or document 01's number of a refusal and
+-- The station's answers as lines of text: a letter, the minute and the figures in order, or the documents' number of a refusal and
 -- what it also returns.
 use mathlib.Core.Bool.{cond}
 use mathlib.Core.List.{List, [], _∷_, _++_}

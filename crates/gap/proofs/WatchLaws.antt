@@ -1,13 +1,14 @@
 -- What the store's laws say of the watch's messages: each is heard, and what is then recalled, by computation. Assumes nothing.
 use mathlib.Core.Path.{_≡_, refl, sym, ap, _∙_, subst}
-use mathlib.Core.Bool.{Bool, true, false, not, cond}
+use mathlib.Core.Bool.{Bool, true, false, not}
 use mathlib.Core.List.{List, [], _∷_}
 use Prim.Native.Nat.{ℕ, _<_}
 use lib.Dec.{leb, lit<}
 use lib.Ieee.{ofBits}
 use lib.IntN.{pos}
+use borrow.Author.Tests.{leb-true}
 use Rattle.number.specs.Round.{nearest}
-use Rattle.number.specs.Refusal.{Answer, refused, given, answer}
+use Rattle.number.specs.Refusal.{Numbered, Answer, refused, given, answer}
 use Rattle.number.proofs.Sizes.{impossible}
 use Rattle.quantity.specs.Limits.{minutesBetween}
 use Rattle.quantity.specs.declared.BarometerUnit.{BarometerUnit}
@@ -23,10 +24,9 @@ use Rattle.store.specs.Block.{openedBy, isGiven, heardAs, outcome, Hears, recal
 use Rattle.cell.specs.Cells.{Recall}
 use Rattle.store.specs.History.{nextOf, history, remembered, isPresent, Remembers}
 use Rattle.store.specs.declared.Hearing.{Hearing}
-use Rattle.cell.proofs.CellLaws.{received-back}
-use Rattle.store.proofs.HearingLaws.{hearing-given}
+use Rattle.store.proofs.NewestLaws.{later}
 use Rattle.store.proofs.OpenLaws.{opens}
-use Rattle.store.proofs.HistoryLaws.{opened-remembers, heard-remembers, later-is}
+use Rattle.store.proofs.HistoryLaws.{opened-remembers, heard-remembers, by-newest}
 use Rattle.store.proofs.StoreTheorems.{absent-count}
 use Rattle.gap.specs.Watch.{sent, to-100, to-280, to-400, pressureIn, temperatureIn}
 
@@ -53,10 +53,10 @@ module _ {s s′ m : List ℕ} {h : Hearing} {M : List (List ℕ)} (heard : Hear
       go : (a : Answer ℕ Entry) → received Hectopascals m ≡ a → isLaterThan M a ≡ true → isGiven (heardAs h) ≡ true
       go (refused n) g t = impossible (cc)
       go (given e) g t =
+          let n = nextOf (history Hectopascals (e .channel) M) in
           ap isGiven (heard .answer)
-          ∙ ap (λ (a : Answer ℕ Entry). isGiven (outcome a))
-          (hearing-given s m (r .is-store) e (subst (λ (v : BarometerUnit). received v m ≡ given e) (sym (r .unit)) g)
-          ∙ ap (λ (x : Bool). cond x (given e) (refused 8)) (later-is s Hectopascals M r e (received-back Hectopascals m e g .1) ∙ t))
+          ∙ ap (λ (a : Answer Numbered Entry). isGiven (outcome a))
+          (by-newest s Hectopascals M m r e g ∙ later n (e .minute) e (leb-true n (e .minute) t))
 
   pub goes-on : Remembers s′ Hectopascals (m ∷ M)
   goes-on = subst (λ (x : List ℕ). Remembers x Hectopascals (m ∷ M)) (sym (heard .block)) (heard-remembers s Hectopascals M m r)

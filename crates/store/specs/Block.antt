@@ -23,7 +23,7 @@ use Rattle.store.specs.declared.Hearing.{Hearing}
 use Rattle.store.specs.declared.Hearing.the-variants.{Heard, Refused, Repeated, Late, NoStore}
 
 -- A block after an opening with these settings: "a refused opening gives no store", and leaves the block as it was.
-abbrev pub isGiven : {A : Type 0} → Answer ℕ A → Bool
+abbrev pub isGiven : {R A : Type 0} → Answer R A → Bool
 isGiven (refused n) = false
 isGiven (given a) = true
 
@@ -36,10 +36,10 @@ openedBy s g = cond (isGiven (checked g)) (opened g) s
 abbrev pub entryOfBytes : List ℕ → List ℕ → Entry
 entryOfBytes s m = entry (unitOf s) (minute m) (message m)
 
--- "8, minute equal to the newest, and 19, minute earlier, which returns the difference; 19 stands directly after 8." The minute after
--- the newest is `next`: it is 0 where there is no newest, and then neither holds.
+-- "8, minute equal to the newest, and 19, minute earlier, which returns the difference; 19 stands directly after 8." The minute
+-- that follows the newest is 0 where there is no newest, and then neither holds.
 abbrev pub newestTests : ℕ → ℕ → List (Test Numbered)
-newestTests next m = test 8 [] (eqb (m + 1) next) ∷ test 19 ((next - (m + 1)) ∷ []) (ltb (m + 1) next) ∷ []
+newestTests following m = test 8 [] (eqb (m + 1) following) ∷ test 19 ((following - (m + 1)) ∷ []) (ltb (m + 1) following) ∷ []
 
 -- The minute after a channel's newest.
 abbrev pub nextIn : List ℕ → ℕ → ℕ

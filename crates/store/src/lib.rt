@@ -31,7 +31,7 @@ pub enum Hearing {
     Repeated,
     // 19: it is earlier, by so many minutes
     Late(u64),
-    // none of document 01's: the block is no store
+    // none of the documents': the block is no store
     NoStore,
 }
 

@@ -1,4 +1,4 @@
--- Answers as C sees them: document 01's number, what a refusal also returns, and figures; 0 for what there is not.
+-- Answers as C sees them: the documents' number, what a refusal also returns, and figures; 0 for what there is not.
 use mathlib.Core.List.{List, [], _∷_}
 use Prim.Native.Nat.{ℕ}
 use lib.IntN.{ℤ, pos}

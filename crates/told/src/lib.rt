@@ -1,4 +1,4 @@
-// Settings and answers as C sees them: document 01's number, what a refusal also returns, and figures. A number of 0 says that
+// Settings and answers as C sees them: the documents' number, what a refusal also returns, and figures. A number of 0 says that
 // nothing was refused.
 ghost use mathlib.Core.Path.{_≡_};
 ghost use Rattle.store.specs.Block.{heardAs};

@@ -1,6 +1,6 @@
 // What ships' software calls from C and Rust: a static library over the station and the watch file.
-// Any block, bytes, numbers and room get an answer. A number of a refusal is document 01's; 0 says that nothing was refused, and 255,
-// which is none of document 01's, that the block was never opened.
+// Any block, bytes, numbers and room get an answer. A number of a refusal is the documents'; 0 says that nothing was refused, and 255,
+// which is none of theirs, that the block was never opened.
 ghost use mathlib.Core.Path.{_≡_};
 ghost use mathlib.Core.List.{map};
 ghost use Prim.Native.Nat.{ℕ};
