@@ -90,7 +90,8 @@ fn why(next: u64, minute: u32) -> Hearing
     if after == next {
         return Hearing::Repeated;
     }
-    Hearing::Late(next - after)
+    let late = next - after;
+    Hearing::Late(late)
 }
 
 // Keeps a reading in its channel's part of the block, if it is later than the channel's newest.

@@ -13,11 +13,11 @@ add-after c = search needs
 returns : tie.Need-returns
 returns c = let a = c .before .args in λ e. sym (ap outcome (repeated (a .next) (a .minute) e (c .if1 .taken)))
 
-sub-t4 : tie.Need-sub-t4
-sub-t4 c = search needs
+sub-late : tie.Need-sub-late
+sub-late c = search needs
 
 returns-2 : tie.Need-returns-2
 returns-2 c = let a = c .before .args in λ e. sym (ap outcome (late (a .next) (a .minute) e (search needs)))
 
 pub why-spec : {M : Type 1} → statement M
-why-spec = tie.close (tie.spec add-after returns sub-t4 returns-2)
+why-spec = tie.close (tie.spec add-after returns sub-late returns-2)
