@@ -1,16 +1,16 @@
 -- One law for every list of tests: the answer is a refusal exactly when its test holds and no earlier one does. By
 -- induction on the list, each time by whether the first test holds. Assumes nothing.
 use mathlib.Core.Path.{_≡_, refl, sym, ap, _∙_, subst}
-use mathlib.Core.Bool.{Bool, true, false, _&&_, cond}
+use mathlib.Core.Bool.{Bool, true, false}
 use mathlib.Core.List.{List, [], _∷_, _++_}
 use mathlib.Core.Logic.{_↔_}
-use Prim.Native.Nat.{ℕ, zero, suc, _≤_, _<_, zero-le, suc-le-suc}
+use Prim.Native.Nat.{ℕ, zero, suc, _<_, zero-le, suc-le-suc}
 use native.Mathlib.Omega.{arith}
 use native.Mathlib.Decide.{decLt}
 use native.Mathlib.Nat.{not-suc-le-zero, le-of-suc-le-suc}
 use lib.Dec.{T, ltb, ltb→lt}
 use lib.Ieee.Fits.{and-l, and-r}
-use Rattle.number.specs.Refusal.{Numbered, numbered, Test, plain, Answer, refused, given, answer, HoldsAt, Holds, NoneBefore, First, NoneBelow, inOrder}
+use Rattle.number.specs.Refusal.{numbered, Test, plain, Answer, refused, given, answer, HoldsAt, Holds, NoneBefore, First, NoneBelow, inOrder}
 use Rattle.number.proofs.Sizes.{impossible}
 
 -- a refusal is not what is given

@@ -13,7 +13,6 @@ use borrow.Author.Tests.{ne-eqb}
 use Rattle.number.specs.Refusal.{Numbered, numbered, Test, plain, Answer, refused, given, answer}
 use Rattle.number.proofs.RefusalLaws.{refused-not-given, refused-then, refused-stays, given-goes-on, given-is, plain-refused}
 use Rattle.message.specs.Receive.{Entry, tests, received}
-use Rattle.window.specs.Window.{takes}
 use Rattle.window.proofs.AcceptLaws.{takes-later, takes-not}
 use Rattle.cell.specs.Cells.{CHANNELS}
 use Rattle.cell.proofs.CellLaws.{received-back}

@@ -7,7 +7,7 @@ use native.Mathlib.Omega.{arith}
 use Rattle.number.specs.Refusal.{Numbered, Answer, given, answer}
 use Rattle.quantity.specs.declared.BarometerUnit.{BarometerUnit}
 use Rattle.message.specs.Receive.{Entry, received}
-use Rattle.store.specs.Block.{newestTests, hearing, outcome, Hears}
+use Rattle.store.specs.Block.{newestTests, outcome, Hears}
 use Rattle.store.specs.History.{nextOf, history, Remembers}
 use Rattle.store.specs.declared.Hearing.{Hearing}
 use Rattle.store.specs.declared.Hearing.the-variants.{Heard, Repeated, Late}

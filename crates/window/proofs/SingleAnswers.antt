@@ -1,6 +1,6 @@
 -- Each public contract of this crate allows a single answer: each gives the result as a function of the arguments, and
 -- `accept` also the words that it leaves. Assumes nothing.
-use mathlib.Core.Path.{_≡_, sym, _∙_}
+use mathlib.Core.Path.{sym, _∙_}
 use Rattle.number.specs.Single.{Single, SingleLeft}
 use Rattle.window.proofs.next.Reads as next
 use Rattle.window.proofs.accept.Reads as accept

@@ -1,6 +1,5 @@
 -- `why` meets its contract: the minute is that of the newest, or earlier. Assumes nothing.
 use mathlib.Core.Path.{sym, ap}
-use native.Mathlib.Omega.{arith}
 use Rattle.store.specs.Block.{outcome}
 use Rattle.store.proofs.NewestLaws.{repeated, late}
 use borrow.Author.Needs.{needs}

@@ -1,5 +1,5 @@
 -- `hearing_told` meets its contract: only a late message is told with minutes. Assumes nothing.
-use mathlib.Core.Path.{_≡_, refl, sym, _∙_}
+use mathlib.Core.Path.{_≡_, refl, sym}
 use mathlib.Core.Bool.{false}
 use Rattle.number.specs.Refusal.{numberedIn}
 use Rattle.number.proofs.Sizes.{never}
