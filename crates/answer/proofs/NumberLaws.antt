@@ -1,4 +1,5 @@
--- No refusal has the number 0: the line of what opening and hearing come to is that of their number. Assumes nothing.
+-- No refusal has the number 0: the line of what opening and hearing come to is that of their number, but where a message was late. Assumes
+-- nothing.
 use mathlib.Core.Path.{_≡_, refl, sym}
 use mathlib.Core.Bool.{false}
 use mathlib.Core.List.{List}
