@@ -10,7 +10,7 @@ add-after : tie.Need-add-after
 add-after c = search needs
 
 returns : tie.Need-returns
-returns c = let a = c .before .args in λ e. sym (ap outcome (repeated (a .next) (a .minute) e (c .if1 .taken)))
+returns c = let a = c .before .args in λ e. sym (ap outcome (repeated (a .next) (a .minute) e (search needs)))
 
 sub-late : tie.Need-sub-late
 sub-late c = search needs
