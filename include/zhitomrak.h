@@ -79,8 +79,8 @@ typedef struct {
 /* Hears a message of instruments, 16 bytes: 0, and its reading is kept; or the first of 1 to 8 and 19 whose reason holds, and the
  * block stays as it was. 1, not 16 bytes; 2, channel above 5; 3, a byte that must be zero isn't; 4, wet-bulb state not water; 5,
  * minute above 16777215; 6, infinite or not a number; 7, outside limits; 8, the minute is that of the channel's newest; 19, it is
- * earlier, with the minutes between: 1 to 16777215 in an opened store. A channel's first message gets neither 8 nor 19. Before all
- * of them: ZHITOMRAK_NO_STORE, the block was never opened, and stays as it was too. */
+ * earlier, with the minutes between. A channel's first message gets neither 8 nor 19. Before all of them: ZHITOMRAK_NO_STORE, the
+ * block was never opened, and stays as it was too. */
 zhitomrak_heard zhitomrak_hear(zhitomrak_store *store, const uint8_t *message, size_t length);
 
 /* ---- questions: asking changes nothing; each can also be answered ZHITOMRAK_NO_STORE ---- */
