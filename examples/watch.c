@@ -44,7 +44,7 @@ int main(void)
     zhitomrak_settings settings = {
         .unit = ZHITOMRAK_MM_HG,
         .height = 101,
-        .difference = 0,
+        .difference = -268, /* the Caspian */
         .coefficient = 24,
         .psychrometer = 662,
         .count = 2,

@@ -1,4 +1,4 @@
--- Every figure that document 01 marks with *, in one table ("Figures on both sides").
+-- Every figure that document 01 marks with *, in one table ("Figures on both sides"), as document 02 has changed them.
 use mathlib.Core.Path.{_≡_}
 use mathlib.Core.List.{List, [], _∷_}
 use Prim.Native.Nat.{ℕ}
@@ -59,9 +59,9 @@ certificate = point (pos 7300) (negℤ (pos 4)) ∷ point (pos 7500) (negℤ (po
 
 unfoldable pub marked : List Marked
 marked =
-    -- "coefficient 24, H 10.1, reading 741.9, 12.4 °C: 990.0. Difference -26.8: 986.4."
+    -- "coefficient 24, H 10.1, reading 741.9, 12.4 °C: 990.0. Difference -26.8:", and of the two W2 says that they "become 990.0 and 986.5"
     pressure Millimetres (pos 101) (pos 0) (pos 24) certificate (mmHg (pos 7419)) (pos 124) (pos 9900)
-    ∷ pressure Millimetres (pos 101) (negℤ (pos 268)) (pos 24) certificate (mmHg (pos 7419)) (pos 124) (pos 9864)
+    ∷ pressure Millimetres (pos 101) (negℤ (pos 268)) (pos 24) certificate (mmHg (pos 7419)) (pos 124) (pos 9865)
     -- "Course 260, 12.5 kn, apparent 40° at 2.5 m/s: 4.8 m/s from 60°"
     ∷ wind 260 125 25 40 48 60
     -- "Course 30, 10.0 kn, apparent 0: 5.1 from 210. Course 90, 10.0 kn, 0° at 5.0: 0.1 from 270."

@@ -7,7 +7,7 @@ use Rattle.number.specs.declared.Number.{Number}
 use Rattle.quantity.specs.Limits.{inside, pressureLimits, wheelhouse}
 use Rattle.quantity.specs.declared.BarometerUnit.{BarometerUnit}
 use Rattle.quantity.specs.declared.BarometerUnit.the-variants.{Hectopascals, Millimetres}
-use Rattle.pressure.specs.Pressure.{Barometer, readingAs, inUnit, tenthsIn, isReading, scale, outside, temperature, height, toHectopascals, seaLevel, stationPressure, scaled, scaledAs, seaLevelAnswer, stationAnswer}
+use Rattle.pressure.specs.Pressure.{Barometer, readingAs, inUnit, tenthsIn, isReading, scale, outside, corrected, toHectopascals, roundedOnce, seaLevel, stationPressure, scaled, scaledAs, seaLevelAnswer, stationAnswer}
 use Rattle.pressure.specs.declared.BarometerReading.{BarometerReading}
 use Rattle.pressure.specs.declared.BarometerReading.the-variants as reading
 use Rattle.pressure.specs.declared.ScaleCorrection.{ScaleCorrection}
@@ -91,15 +91,10 @@ module _ (b : Barometer) (x : BarometerReading) {u : BarometerUnit} {r : ℤ} (e
     unfolding seaLevelAnswer answer
     sea-outside i j o = rw (is-reading i, j, certified o)
 
-    -- p is worked of y tenths, the reading plus its three corrections, z by the scale
+    -- p is worked of y, the reading plus its three corrections, z by the scale
     pub sea-given : {p y z : ℤ} → inside (pressureLimits u) r ≡ true → inside wheelhouse t ≡ true → Worked b r z
-        → y ≡ r +ℤ z +ℤ temperature (b .coefficient) t +ℤ height (b .unit) (b .height) (b .difference)
-        → p ≡ toHectopascals u y → given p ≡ seaLevelAnswer b (readingAs x) t
+        → y ≡ corrected b r z t → p ≡ roundedOnce u y → given p ≡ seaLevelAnswer b (readingAs x) t
     unfolding seaLevelAnswer seaLevel answer
     sea-given i j w f k =
         rw (is-reading i, j, certified (w .there))
-        (ap given
-        (k
-        ∙ ap₂ toHectopascals e
-        (f ∙ ap (λ (s : ℤ). r +ℤ s +ℤ temperature (b .coefficient) t +ℤ height (b .unit) (b .height) (b .difference)) (w .is))
-        ∙ ap (λ (q : ℤ). seaLevel b q t) tenths))
+        (ap given (k ∙ ap₂ roundedOnce e (f ∙ ap (λ (s : ℤ). corrected b r s t) (w .is)) ∙ ap (λ (q : ℤ). seaLevel b q t) tenths))

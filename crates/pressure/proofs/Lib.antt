@@ -7,4 +7,6 @@ pub mod RisingLaws
 pub mod ScaleLaws
 pub mod NearLaws
 pub mod PressureTheorems
+pub mod PressuresAsBefore
+pub mod DecidingCases
 pub mod SingleAnswers

@@ -3,12 +3,12 @@
 -- A block that was opened works as its settings say. And the two units of pressure are kept apart. Assumes nothing.
 use mathlib.Core.Path.{_≡_, refl, ap, _∙_}
 use mathlib.Core.Bool.{true, false, not, _&&_}
-use Prim.Native.Nat.{ℕ, zero, suc, _+_, _-_, _≤_, _<_}
+use Prim.Native.Nat.{ℕ, zero, suc, _+_, _-_, _*_, _≤_, _<_}
 use native.Mathlib.Omega.{arith}
 use lib.Dec.{lit≤}
-use lib.IntN.{ℤ, pos, negℤ, natAbs, _-ℤ_}
+use lib.IntN.{ℤ, pos, negℤ, natAbs, _+ℤ_, _-ℤ_}
 use Rattle.number.specs.Refusal.{refused, given, answer}
-use Rattle.number.proofs.Sizes.{within-size, and-true}
+use Rattle.number.proofs.Sizes.{within-size, and-true, natural}
 use Rattle.quantity.specs.Limits.{inside, pressureLimits, recordedPressure, wheelhouse}
 use Rattle.quantity.specs.declared.BarometerUnit.{BarometerUnit}
 use Rattle.quantity.specs.declared.BarometerUnit.the-variants.{Hectopascals, Millimetres}
@@ -19,10 +19,10 @@ use Rattle.settings.specs.declared.Settings.{Settings}
 use Rattle.settings.specs.declared.Point.{Point}
 use Rattle.block.specs.Words.{opened}
 use Rattle.block.proofs.SettingsLaws.{others, each, settings-back}
-use Rattle.pressure.specs.Pressure.{Barometer, barometerIn, barometerOf, around, scaleFrom, scale, outside, inUnit, tenthsIn, temperature, height, seaLevel, stationPressure, seaLevelAnswer, stationAnswer}
+use Rattle.pressure.specs.Pressure.{Barometer, barometerIn, barometerOf, around, scaleFrom, scale, outside, inUnit, tenthsIn, temperature, perMetre, height, seaLevel, stationPressure, seaLevelAnswer, stationAnswer}
 use Rattle.pressure.proofs.ScaleLaws.{two}
 use Rattle.pressure.proofs.SizeLaws.{scale-size, temperature-size, height-size}
-use Rattle.pressure.proofs.NearLaws.{Among, apart, recorded, highest, sea-level-near, station-near}
+use Rattle.pressure.proofs.NearLaws.{Among, apart, recorded, fewest, most, tenths-near, sea-level-near, station-near}
 
 -- ---- settings that a store opens with
 
@@ -37,12 +37,13 @@ module _ (g : Settings) (good : checked g ≡ given tt) where
           let i = and-true (inside (pressureLimits (g .unit)) (p .reading .v)) (inside correction (p .correction .0 .v)) (each g good j h) in
           within-size (negℤ (pos 50)) (pos 50) (p .correction .0 .v) 50 (lit≤ tt) (lit≤ tt) (i .1)
 
-  record Others : Type 0 where
-    high : natAbs (g .height .0 .v) ≤ 600
-    far : natAbs (g .difference .0 .v) ≤ 300
-    warm : natAbs (g .coefficient .0 .v) ≤ 50
+  pub record Others : Type 0 where
+    pub above : pos (natAbs (g .height .0 .v)) ≡ g .height .0 .v
+    pub high : natAbs (g .height .0 .v) ≤ 600
+    pub far : natAbs (g .difference .0 .v) ≤ 300
+    pub warm : natAbs (g .coefficient .0 .v) ≤ 50
 
-  sizes : Others
+  pub sizes : Others
   unfolding othersHold
   sizes =
       let h = g .height .0 .v in
@@ -52,25 +53,26 @@ module _ (g : Settings) (good : checked g ≡ given tt) where
       let j = and-true (inside settings.height h && inside settings.difference d) (inside settings.coefficient k) (i .0) in
       let l = and-true (inside settings.height h) (inside settings.difference d) (j .0) in
       record {
+        above = natural 0 (pos 600) h (l .0);
         high = within-size (pos 0) (pos 600) h 600 (lit≤ tt) (lit≤ tt) (l .0);
         far = within-size (negℤ (pos 300)) (pos 300) d 300 (lit≤ tt) (lit≤ tt) (l .1);
         warm = within-size (negℤ (pos 50)) (pos 50) k 50 (lit≤ tt) (lit≤ tt) (j .1);
       }
 
-  by-height : natAbs (height (g .unit) (g .height .0 .v) (g .difference .0 .v)) ≤ highest (g .unit)
-  unfolding highest
-  by-height = go (g .unit)
-    where
-      go : (u : BarometerUnit) → natAbs (height u (g .height .0 .v) (g .difference .0 .v)) ≤ highest u
-      go Hectopascals = height-size Hectopascals (g .height .0 .v) (g .difference .0 .v) 600 300 120 (sizes .high) (sizes .far) (lit≤ tt)
-      go Millimetres = height-size Millimetres (g .height .0 .v) (g .difference .0 .v) 600 300 90 (sizes .high) (sizes .far) (lit≤ tt)
+  pub by-height : natAbs (height (g .unit) (g .height .0 .v) (g .difference .0 .v)) ≤ 900 * perMetre (g .unit)
+  by-height = height-size (g .unit) (g .height .0 .v) (g .difference .0 .v) 900 (omega (arith, sizes .high, sizes .far))
+
+  pub tenths-among : (r t : ℤ) → inside (pressureLimits (g .unit)) r ≡ true → inside wheelhouse t ≡ true
+      → Among (fewest (g .unit)) (most (g .unit)) (r +ℤ scale (barometerIn g) r +ℤ temperature (g .coefficient .0 .v) t)
+  tenths-among r t i j =
+      tenths-near (g .unit) r (scale (barometerIn g) r) (temperature (g .coefficient .0 .v) t) i (by-scale r)
+      (temperature-size (g .coefficient .0 .v) t 50 600 30 (sizes .warm) (within-size (negℤ (pos 400)) (pos 600) t 600 (lit≤ tt) (lit≤ tt) j) (lit≤ tt))
 
   sea-level-among : (r t : ℤ) → inside (pressureLimits (g .unit)) r ≡ true → inside wheelhouse t ≡ true → Among 8300 11226 (seaLevel (barometerIn g) r t)
   unfolding seaLevel
   sea-level-among r t i j =
-      sea-level-near (g .unit) r (scale (barometerIn g) r) (temperature (g .coefficient .0 .v) t) (height (g .unit) (g .height .0 .v) (g .difference .0 .v)) i (by-scale r)
-      (temperature-size (g .coefficient .0 .v) t 50 600 30 (sizes .warm) (within-size (negℤ (pos 400)) (pos 600) t 600 (lit≤ tt) (lit≤ tt) j) (lit≤ tt))
-      by-height
+      sea-level-near (g .unit) (r +ℤ scale (barometerIn g) r +ℤ temperature (g .coefficient .0 .v) t) (height (g .unit) (g .height .0 .v) (g .difference .0 .v))
+      (tenths-among r t i j) by-height
 
   -- Sea level pressure can always be written to a watch file.
   pub sea-level-recorded : (r t : ℤ) → inside (pressureLimits (g .unit)) r ≡ true → inside wheelhouse t ≡ true

@@ -5,10 +5,11 @@ use mathlib.Core.Bool.{Bool, true, false}
 use mathlib.Core.List.{List}
 use Prim.Native.Nat.{ℕ, zero, suc, _+_, _-_, _*_, _/_, _%_, _≤_, zero-le}
 use native.Mathlib.Omega.{arith}
-use native.Mathlib.Nat.{le-trans, mul-le-mul-left, mul-le-mul-right}
+use native.Mathlib.Nat.{le-trans, le-of-eq, mul-le-mul-left, mul-le-mul-right}
 use lib.Dec.{ltb, lit≤, lit<}
 use lib.IntN.{ℤ, pos, natAbs, _+ℤ_, _*ℤ_}
 use lib.ListN.{getD}
+use Rattle.number.specs.Round.{nearest, rounded}
 use Rattle.number.proofs.Sizes.{size-sum, size-mul}
 use Rattle.quantity.specs.declared.BarometerUnit.{BarometerUnit}
 use Rattle.quantity.specs.declared.BarometerUnit.the-variants.{Hectopascals, Millimetres}
@@ -16,7 +17,7 @@ use Rattle.settings.specs.declared.Point.{Point}
 use Rattle.block.specs.Layout.{POINTS}
 use Rattle.cell.specs.Cells.{unbiased}
 use Rattle.block.specs.Words.{unitOf, settingOf, pointOf}
-use Rattle.pressure.specs.Pressure.{Barometer, barometerOf, around, scaleFrom, scale, temperature, height, toHectopascals, seaLevel}
+use Rattle.pressure.specs.Pressure.{Barometer, barometerOf, around, scaleFrom, scale, temperature, perMetre, height, factor, roundedOnce, seaLevel}
 use Rattle.pressure.specs.Stored.{Stored}
 use Rattle.pressure.proofs.LineLaws.{rounded-at-most, between-size}
 
@@ -28,16 +29,10 @@ unfolding temperature
 temperature-size c t m n k hc ht h =
     rounded-at-most (c *ℤ t) 1000 k (lit< tt) (omega (arith, size-mul c t, product hc ht))
 
--- m + n tenths of a metre, in tenths of the unit
-abbrev pub Height : BarometerUnit → ℕ → ℕ → Type 0
-Height Hectopascals metres k = metres * 133 ≤ k * 1000
-Height Millimetres metres k = metres ≤ k * 10
-
-pub height-size : (u : BarometerUnit) (h d : ℤ) (m n k : ℕ) → natAbs h ≤ m → natAbs d ≤ n → Height u (m + n) k → natAbs (height u h d) ≤ k
+-- for each tenth of a metre as many ten-thousandths of the unit
+pub height-size : (u : BarometerUnit) (h d : ℤ) (k : ℕ) → natAbs h + natAbs d ≤ k → natAbs (height u h d) ≤ k * perMetre u
 unfolding height
-height-size Hectopascals h d m n k hm hn l =
-    rounded-at-most ((h +ℤ d) *ℤ pos 133) 1000 k (lit< tt) (omega (arith, size-mul (h +ℤ d) (pos 133), size-sum h d))
-height-size Millimetres h d m n k hm hn l = rounded-at-most (h +ℤ d) 10 k (lit< tt) (omega (arith, size-sum h d))
+height-size u h d k l = le-trans (le-of-eq (size-mul (h +ℤ d) (pos (perMetre u)))) (mul-le-mul-right (perMetre u) (le-trans (size-sum h d) l))
 
 -- the scale correction: the points up to the last one used bound it
 scale-from-size : (point : ℕ → Point) (r : ℤ) (k i n : ℕ) → ((j : ℕ) → j ≤ i + n → natAbs (point j .correction .0 .v) ≤ k)
@@ -77,16 +72,20 @@ scale-stored s r = scale-size (barometerOf s) r 32768 (λ j h. stored s j .corre
 pub temperature-stored : (n : ℕ) (t : ℤ) → natAbs t ≤ 600 → natAbs (temperature (unbiased n) t) ≤ 19661
 temperature-stored n t h = temperature-size (unbiased n) t 32768 600 19661 (setting-size n) h (lit≤ tt)
 
-pub height-stored : (u : BarometerUnit) (m n : ℕ) → natAbs (height u (unbiased m) (unbiased n)) ≤ 8717
-height-stored u m n = height-size u (unbiased m) (unbiased n) 32768 32768 8717 (setting-size m) (setting-size n) (fits u)
+height-stored : (u : BarometerUnit) (m n : ℕ) → natAbs (height u (unbiased m) (unbiased n)) ≤ 8716288
+height-stored u m n = le-trans (height-size u (unbiased m) (unbiased n) 65536 (omega (arith, setting-size m, setting-size n))) (fits u)
   where
-    fits : (u : BarometerUnit) → Height u 65536 8717
+    fits : (u : BarometerUnit) → 65536 * perMetre u ≤ 8716288
     fits Hectopascals = lit≤ tt
     fits Millimetres = lit≤ tt
 
-in-hectopascals-size : (u : BarometerUnit) (z : ℤ) (k : ℕ) → natAbs z ≤ k → natAbs (toHectopascals u z) ≤ 2 * k
-in-hectopascals-size Hectopascals z k h = omega arith
-in-hectopascals-size Millimetres z k h = rounded-at-most (z *ℤ pos 13332) 10000 (2 * k) (lit< tt) (omega (arith, size-mul z (pos 13332)))
+pub factor-size : (u : BarometerUnit) → natAbs (factor u) ≤ 13332
+unfolding rounded nearest
+factor-size Hectopascals = lit≤ tt
+factor-size Millimetres = lit≤ tt
+
+once-size : (u : BarometerUnit) (z : ℤ) (k : ℕ) → natAbs z ≤ k * 500 → natAbs (roundedOnce u z) ≤ k
+once-size u z k h = rounded-at-most (z *ℤ factor u) (1000 * 10000) k (lit< tt) (omega (arith, size-mul z (factor u), product h (factor-size u)))
 
 -- Sea level pressure of any block, from a reading and a temperature within their limits.
 pub sea-level-stored : (s : List ℕ) (r t : ℤ) → natAbs r ≤ 32768 → natAbs t ≤ 600 → natAbs (seaLevel (barometerOf s) r t) ≤ 187828
@@ -95,10 +94,11 @@ sea-level-stored s r t h k =
     let a = scale (barometerOf s) r in
     let b = temperature (settingOf s 3) t in
     let c = height (unitOf s) (settingOf s 1) (settingOf s 2) in
-    in-hectopascals-size (unitOf s) (r +ℤ a +ℤ b +ℤ c) 93914
+    once-size (unitOf s) ((r +ℤ a +ℤ b) *ℤ pos 1000 +ℤ c) 187828
     (omega (
       arith,
-      size-sum (r +ℤ a +ℤ b) c,
+      size-sum ((r +ℤ a +ℤ b) *ℤ pos 1000) c,
+      size-mul (r +ℤ a +ℤ b) (pos 1000),
       size-sum (r +ℤ a) b,
       size-sum r a,
       scale-stored s r,

@@ -1,2 +1,3 @@
 pub mod Pressure
 pub mod Stored
+pub mod Before

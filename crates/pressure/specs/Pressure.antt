@@ -1,8 +1,8 @@
--- Sea level pressure and station pressure (document 01, "Pressure and tendency" and "Humidity"; 004, section 6).
+-- Sea level pressure and station pressure (document 01, "Pressure and tendency" and "Humidity"; document 02, W2; 004, section 6).
 -- A reading comes with its unit, as a figure. Without it readings, corrections and temperatures are in tenths.
 use mathlib.Core.Bool.{Bool, true, false, not, _&&_, _||_, cond}
 use mathlib.Core.List.{List, [], _∷_}
-use Prim.Native.Nat.{ℕ, zero, suc, _+_, _-_}
+use Prim.Native.Nat.{ℕ, zero, suc, _+_, _-_, _*_}
 use lib.IntN.{ℤ, pos, natAbs, _+ℤ_, _-ℤ_, _*ℤ_}
 use lib.Signed.{leZ}
 use Rattle.number.specs.Round.{rounded}
@@ -110,10 +110,14 @@ outside b reading = every (λ i. not (around (b .point i) (b .point (i + 1)) rea
 unfoldable pub temperature : ℤ → ℤ → ℤ
 temperature coefficient t = rounded (coefficient *ℤ t) 1000
 
--- "Height correction: (H + difference) times 0.133 hPa or 0.1 mm Hg, rounded to 0.1 (004, 6.1.3)"
+-- "Height correction: (H + difference) times 0.133 hPa or 0.1 mm Hg" (004, formula 3), and since W2 "the height correction is
+-- exact": tenths of a metre times thousandths of the unit a metre are ten-thousandths of the unit
+abbrev pub perMetre : BarometerUnit → ℕ
+perMetre Hectopascals = 133
+perMetre Millimetres = 100
+
 unfoldable pub height : BarometerUnit → ℤ → ℤ → ℤ
-height Hectopascals h difference = rounded ((h +ℤ difference) *ℤ pos 133) 1000
-height Millimetres h difference = rounded (h +ℤ difference) 10
+height unit h difference = (h +ℤ difference) *ℤ pos (perMetre unit)
 
 -- ---- the two pressures, in tenths of hPa
 
@@ -122,11 +126,22 @@ abbrev pub toHectopascals : BarometerUnit → ℤ → ℤ
 toHectopascals Hectopascals tenths = tenths
 toHectopascals Millimetres tenths = inHectopascals tenths
 
+-- "reading plus the three", in ten-thousandths of the unit, of which 1000 are a tenth; the scale correction is given
+abbrev pub corrected : Barometer → ℤ → ℤ → ℤ → ℤ
+corrected b reading byScale t =
+    (reading +ℤ byScale +ℤ temperature (b .coefficient) t) *ℤ pos 1000 +ℤ height (b .unit) (b .height) (b .difference)
+
+-- "times 1.3332 if in mm Hg": the factor in ten-thousandths, by the conversion itself: 1000.0 of the unit are 1000.0 or 1333.2 hPa
+abbrev pub factor : BarometerUnit → ℤ
+factor unit = toHectopascals unit (pos 10000)
+
+-- "only the final pressure is rounded": the product, of which 1000 * 10000 are a tenth of hPa
+abbrev pub roundedOnce : BarometerUnit → ℤ → ℤ
+roundedOnce unit parts = rounded (parts *ℤ factor unit) (1000 * 10000)
+
 -- "Sea level pressure: reading plus the three, times 1.3332 if in mm Hg, rounded to 0.1 hPa."
 unfoldable pub seaLevel : Barometer → ℤ → ℤ → ℤ
-seaLevel b reading t =
-    toHectopascals (b .unit)
-    (reading +ℤ scale b reading +ℤ temperature (b .coefficient) t +ℤ height (b .unit) (b .height) (b .difference))
+seaLevel b reading t = roundedOnce (b .unit) (corrected b reading (scale b reading) t)
 
 -- "Station pressure: reading plus scale correction, times 1.3332 and rounded to 0.1 if in mm Hg."
 unfoldable pub stationPressure : Barometer → ℤ → ℤ

@@ -3,10 +3,9 @@
 ghost use mathlib.Core.Path.{_≡_};
 ghost use mathlib.Core.Bool.{true};
 ghost use Prim.Native.Nat.{_≤_, _<_, _^_};
-ghost use lib.IntN.{natAbs, _+ℤ_, _*ℤ_};
+ghost use lib.IntN.{natAbs, _*ℤ_};
 ghost use Rattle.number.specs.Whole.{Is};
-ghost use Rattle.block.specs.Words.{unitOf, settingOf};
-ghost use Rattle.pressure.specs.Pressure.{barometerOf, around, line, between, temperature, height, toHectopascals, tenthsIn, readingAs, scaled, scaledAs, seaLevelAnswer, stationAnswer, pressureAs};
+ghost use Rattle.pressure.specs.Pressure.{barometerOf, around, line, between, temperature, height, corrected, toHectopascals, roundedOnce, tenthsIn, readingAs, scaled, scaledAs, seaLevelAnswer, stationAnswer, pressureAs};
 ghost use Rattle.pressure.specs.Stored.{Stored};
 use block::Store;
 use number::Number;
@@ -140,9 +139,9 @@ fn temperature_correction(k: TemperatureCoefficient, t: WheelhouseTemperature) -
     coefficient.number().times(degrees.number()).over(1000)
 }
 
-// The height correction, in tenths of the barometer's unit.
+// The height correction, exact: in ten-thousandths of the barometer's unit.
 fn height_correction(unit: BarometerUnit, h: Height, difference: SeaLevelDifference) -> Number
-    ensures { λ r. ⌜ r .v ≡ height unit (h .0 .v) (difference .0 .v) ⌝ }
+    ensures { λ r. ⌜ Is (r .v) (height unit (h .0 .v) (difference .0 .v)) (2 ^ 40) ⌝ }
 {
     let ship = h.0;
     let sea = difference.0;
@@ -150,8 +149,8 @@ fn height_correction(unit: BarometerUnit, h: Height, difference: SeaLevelDiffere
     let above_ocean = sea.number();
     let whole = above_sea.plus(above_ocean);
     match unit {
-        BarometerUnit::Hectopascals => whole.times(Number { v: 133 }).over(1000),
-        BarometerUnit::Millimetres => whole.over(10),
+        BarometerUnit::Hectopascals => whole.times(Number { v: 133 }),
+        BarometerUnit::Millimetres => whole.times(Number { v: 100 }),
     }
 }
 
@@ -166,7 +165,17 @@ fn in_hectopascals(unit: BarometerUnit, tenths: Number) -> Hectopascals
     }
 }
 
-// A reading plus its three corrections, of which the scale correction is worked already.
+// A pressure in hPa, from ten-thousandths of a barometer's unit: rounded here, and nowhere before. What 1000.0 of the unit are in hPa
+// is the factor in ten-thousandths.
+fn rounded_once(unit: BarometerUnit, parts: Number) -> Hectopascals
+    requires { ⌜ natAbs (parts .v) ≤ 2 ^ 41 ⌝ }
+    ensures { λ r. ⌜ r .0 .v ≡ roundedOnce unit (parts .v) ⌝ }
+{
+    let factor = in_hectopascals(unit, Number { v: 10000 });
+    Hectopascals(parts.times(factor.0).over(10000000))
+}
+
+// A reading plus its three corrections, of which the scale correction is worked already, in ten-thousandths of the unit.
 fn corrected(
     store: &Store,
     reading: Number,
@@ -174,11 +183,7 @@ fn corrected(
     wheelhouse: WheelhouseTemperature,
 ) -> Number
     requires { ⌜ (natAbs (reading .v) ≤ 32768) × (natAbs (scale .v) ≤ 32768) × (natAbs (wheelhouse .0 .v) ≤ 600) ⌝ }
-    ensures { λ r. ⌜ Is (r .v)
-        (reading .v +ℤ scale .v
-        +ℤ temperature (settingOf (now (store .entry)) 3) (wheelhouse .0 .v)
-        +ℤ height (unitOf (now (store .entry))) (settingOf (now (store .entry)) 1) (settingOf (now (store .entry)) 2))
-        (2 ^ 30) ⌝ }
+    ensures { λ r. ⌜ Is (r .v) (corrected (barometerOf (now (store .entry))) (reading .v) (scale .v) (wheelhouse .0 .v)) (2 ^ 41) ⌝ }
 {
     let warm = temperature_correction(block::coefficient(store), wheelhouse);
     let high = height_correction(
@@ -186,10 +191,11 @@ fn corrected(
         block::height(store),
         block::difference(store),
     );
-    reading.plus(scale).plus(warm).plus(high)
+    let tenths = reading.plus(scale).plus(warm);
+    tenths.times(Number { v: 1000 }).plus(high)
 }
 
-// The pressure at sea level: the reading plus its three corrections, in hPa. Or the first of refusals 7 and 12 that holds.
+// The pressure at sea level: the reading plus its three corrections, in hPa, rounded once. Or the first of refusals 7 and 12 that holds.
 pub fn sea_level_pressure(
     store: &Store,
     reading: BarometerReading,
@@ -210,7 +216,7 @@ pub fn sea_level_pressure(
         ScaleCorrection::NoneThere => WorkedPressure::OutsideCertificate,
         ScaleCorrection::Tenths(scale) => {
             let all = corrected(store, tenths, scale, wheelhouse);
-            WorkedPressure::Given(in_hectopascals(unit, all))
+            WorkedPressure::Given(rounded_once(unit, all))
         }
     }
 }

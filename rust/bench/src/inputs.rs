@@ -4,16 +4,37 @@ use reference::{humidity, pressure, settings, station, vapour, watchfile as inde
 use zhitomrak::watchfile as proved;
 use zhitomrak::{Humidity, Point, Settings, Store, Tendency, Unit, Wind};
 
-/// Five points, a height and coefficients that all have work to do.
-const POINTS: [(i32, i32); 5] = [(8500, -12), (9400, 3), (9900, 8), (10300, -4), (11000, 25)];
+/// A barometer: its unit, its certificate, and the readings that it has.
+pub struct Barometer {
+    mm_hg: bool,
+    points: [(i32, i32); 5],
+    readings: (i32, i32),
+}
 
-pub fn open_proved() -> Store {
-    let certificate = POINTS.map(|(reading, correction)| Point {
+/// Five points, and with them a height and coefficients that all have work to do.
+pub const HPA: Barometer = Barometer {
+    mm_hg: false,
+    points: [(8500, -12), (9400, 3), (9900, 8), (10300, -4), (11000, 25)],
+    readings: (9000, 10800),
+};
+
+pub const MM_HG: Barometer = Barometer {
+    mm_hg: true,
+    points: [(6400, -12), (7000, 3), (7400, 8), (7700, -4), (8250, 25)],
+    readings: (6750, 8100),
+};
+
+pub fn open_proved(barometer: &Barometer) -> Store {
+    let certificate = barometer.points.map(|(reading, correction)| Point {
         reading,
         correction,
     });
     let settings = Settings {
-        unit: Unit::Hectopascals,
+        unit: if barometer.mm_hg {
+            Unit::Millimetres
+        } else {
+            Unit::Hectopascals
+        },
         height: 101,
         difference: -268,
         coefficient: 24,
@@ -23,13 +44,17 @@ pub fn open_proved() -> Store {
     Store::open(&settings).expect("the settings are good")
 }
 
-pub fn open_independent() -> station::Store {
-    let certificate = POINTS.map(|(reading, correction)| settings::Point {
+pub fn open_independent(barometer: &Barometer) -> station::Store {
+    let certificate = barometer.points.map(|(reading, correction)| settings::Point {
         reading,
         correction,
     });
     let settings = settings::Settings {
-        unit: settings::Unit::HPa,
+        unit: if barometer.mm_hg {
+            settings::Unit::MmHg
+        } else {
+            settings::Unit::HPa
+        },
         height: 101,
         difference: -268,
         coefficient: 24,
@@ -58,14 +83,15 @@ fn scattered(i: u32, n: u32) -> u32 {
 }
 
 /// All six channels a minute, each minute `step` after the last; values with no pattern.
-pub fn watch(minutes: u32, step: u32) -> Vec<Message> {
+pub fn watch(barometer: &Barometer, minutes: u32, step: u32) -> Vec<Message> {
+    let (low, high) = barometer.readings;
     let mut sent = Vec::new();
     for t in 0..minutes {
         let tenths = |salt: u32, low: i32, high: i32| {
             (low + scattered(t * 8 + salt, (high - low + 1) as u32) as i32) as f32 / 10.0
         };
         let dry = tenths(4, -100, 350);
-        sent.push(message(0, t * step, tenths(0, 9000, 10800), 0.0));
+        sent.push(message(0, t * step, tenths(0, low, high), 0.0));
         sent.push(message(1, t * step, tenths(1, -100, 400), 0.0));
         sent.push(message(
             2,

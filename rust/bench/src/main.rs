@@ -8,7 +8,7 @@ mod inputs;
 use std::hint::black_box;
 use std::time::Instant;
 
-use inputs::Message;
+use inputs::{Barometer, Message, HPA, MM_HG};
 use reference::{listing, station, watchfile as independent};
 use zhitomrak::watchfile as proved;
 use zhitomrak::{raw, Store};
@@ -59,7 +59,7 @@ fn hear_independent(store: &mut station::Store, sent: &[Message]) -> u64 {
 }
 
 fn hearing(name: &str, sent: &[Message]) {
-    let (mut a, mut b) = (inputs::open_proved(), inputs::open_independent());
+    let (mut a, mut b) = (inputs::open_proved(&HPA), inputs::open_independent(&HPA));
     for m in sent {
         same(
             name,
@@ -67,7 +67,7 @@ fn hearing(name: &str, sent: &[Message]) {
             number(&b.hear(m), |r| u32::from(r.number())),
         );
     }
-    let (fresh_a, fresh_b) = (inputs::open_proved(), inputs::open_independent());
+    let (fresh_a, fresh_b) = (inputs::open_proved(&HPA), inputs::open_independent(&HPA));
     let (mut a, mut b) = (fresh_a.clone(), fresh_b.clone());
     row(
         name,
@@ -86,7 +86,7 @@ fn hearing(name: &str, sent: &[Message]) {
 /// Hears again what is not later: all of it refused by this number, after all the other tests.
 fn not_later(refused: u32, sent: &[Message], again: &[Message]) {
     let name = format!("hear, refused {refused}");
-    let (mut a, mut b) = (inputs::open_proved(), inputs::open_independent());
+    let (mut a, mut b) = (inputs::open_proved(&HPA), inputs::open_independent(&HPA));
     same(
         &name,
         hear_proved(&mut a, sent),
@@ -125,9 +125,9 @@ fn later(sent: &[Message], minutes: u32) -> Vec<Message> {
 /// Many stores, each message heard by all of them: what does not fit the caches any more.
 fn stores(count: usize) {
     let minutes = (200_000 / count / 6).clamp(4, 400) as u32;
-    let sent = inputs::watch(minutes, 1);
-    let mut mine = vec![inputs::open_proved(); count];
-    let mut theirs = vec![inputs::open_independent(); count];
+    let sent = inputs::watch(&HPA, minutes, 1);
+    let mut mine = vec![inputs::open_proved(&HPA); count];
+    let mut theirs = vec![inputs::open_independent(&HPA); count];
     let (mut a, mut b) = (f64::MAX, f64::MAX);
     for round in 0..ROUNDS {
         let sent = later(&sent, round as u32 * minutes);
@@ -198,17 +198,26 @@ fn compare_questions(a: &Store, b: &station::Store, asked: &[u32]) {
     );
 }
 
-fn questions() {
-    let (mut a, mut b) = (inputs::open_proved(), inputs::open_independent());
-    let sent = inputs::watch(MINUTES, 1);
+/// A watch heard on both sides, and their answers compared.
+fn kept(barometer: &Barometer, asked: &[u32]) -> (Store, station::Store) {
+    let (mut a, mut b) = (
+        inputs::open_proved(barometer),
+        inputs::open_independent(barometer),
+    );
+    let sent = inputs::watch(barometer, MINUTES, 1);
     same(
         "hear",
         hear_proved(&mut a, &sent),
         hear_independent(&mut b, &sent),
     );
+    compare_questions(&a, &b, asked);
+    (a, b)
+}
+
+fn questions() {
     let asked: Vec<u32> = (0..20_000).map(|i| MINUTES - 1 - i * 7 % 76).collect();
-    compare_questions(&a, &b, &asked);
     let n = asked.len();
+    let (a, b) = kept(&HPA, &asked);
     row(
         "pressure",
         n,
@@ -246,6 +255,13 @@ fn questions() {
         n,
         || ask(&asked, |m| a.pressure(m - 300).unwrap_or(0)),
         || ask(&asked, |m| b.pressure(m - 300).unwrap_or(0)),
+    );
+    let (a, b) = kept(&MM_HG, &asked);
+    row(
+        "pressure, from mm Hg",
+        n,
+        || ask(&asked, |m| a.pressure(m).unwrap_or(0)),
+        || ask(&asked, |m| b.pressure(m).unwrap_or(0)),
     );
 }
 
@@ -315,7 +331,7 @@ fn main() {
         "{:42} {:>9} {:>9} {:>9}",
         "ns a call", "proved", "plain", "ratio"
     );
-    let sent = inputs::watch(20_000, 1);
+    let sent = inputs::watch(&HPA, 20_000, 1);
     hearing("hear, each minute", &sent);
     let (before, newest) = sent.split_at(sent.len() - 6);
     not_later(8, &sent, &newest.repeat(20_000));
@@ -323,7 +339,7 @@ fn main() {
     for gap in [2, 4, 16, 64, 256, 300, 1000] {
         hearing(
             &format!("hear, every {gap} minutes"),
-            &inputs::watch(5_000, gap),
+            &inputs::watch(&HPA, 5_000, gap),
         );
     }
     for count in [1, 16, 256, 2048] {

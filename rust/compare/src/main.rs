@@ -5,6 +5,7 @@
 
 mod blocks;
 mod files;
+mod heights;
 mod humidity;
 mod messages;
 mod pair;
@@ -41,6 +42,7 @@ fn main() {
     messages::compare(&mut tally, &mut r, 2_500 * times);
     messages::repeated_or_late(&mut tally, &mut r, 400 * times);
     watches::compare(&mut tally, &mut r, 100 * times);
+    heights::compare(&mut tally);
     wind::compare(&mut tally, &mut r, 100_000 * times, 400 * times);
     humidity::dew_points(&mut tally);
     humidity::pairs(&mut tally);

@@ -39,35 +39,39 @@ pub fn temperature(coefficient: i32, wheelhouse: i32) -> i32 {
     nearest(i64::from(coefficient) * i64::from(wheelhouse), 1000) as i32
 }
 
-/// "Height correction: (H + difference) times 0.133 hPa or 0.1 mm Hg, rounded to
-/// 0.1", of tenths of a metre.
-#[inline]
-pub fn height(unit: Unit, height: i32, difference: i32) -> i32 {
-    let metres = i64::from(height) + i64::from(difference);
-    match unit {
-        Unit::HPa => nearest(metres * 133, 1000) as i32,
-        Unit::MmHg => nearest(metres, 10) as i32,
-    }
-}
+/// 1 mm Hg is 1.3332 hPa: ten-thousandths.
+const MM_HG: i64 = 13_332;
 
 /// Tenths of the unit as tenths hPa: "times 1.3332 if in mm Hg, rounded to 0.1 hPa".
 #[inline]
 pub fn hectopascals(unit: Unit, tenths: i32) -> i32 {
     match unit {
         Unit::HPa => tenths,
-        Unit::MmHg => nearest(i64::from(tenths) * 13332, 10000) as i32,
+        Unit::MmHg => nearest(i64::from(tenths) * MM_HG, 10_000) as i32,
     }
 }
 
 /// "Sea level pressure: reading plus the three, times 1.3332 if in mm Hg, rounded
 /// to 0.1 hPa." Nothing when the reading lies outside the certificate.
+///
+/// "Height correction: (H + difference) times 0.133 hPa or 0.1 mm Hg", and by
+/// document 02 "the height correction is exact and only the final pressure is
+/// rounded": the sum is taken in parts that a tenth of a metre makes whole.
 #[inline]
 pub fn sea_level(instruments: &Instruments, reading: i32, wheelhouse: i32) -> Option<i32> {
-    let corrected = reading
-        + scale(&instruments.certificate, reading)?
-        + temperature(instruments.coefficient, wheelhouse)
-        + height(instruments.unit, instruments.height, instruments.difference);
-    Some(hectopascals(instruments.unit, corrected))
+    let tenths = i64::from(
+        reading
+            + scale(&instruments.certificate, reading)?
+            + temperature(instruments.coefficient, wheelhouse),
+    );
+    let decimetres = i64::from(instruments.height) + i64::from(instruments.difference);
+    let pressure = match instruments.unit {
+        // 0.0133 hPa each, and a tenth of hPa is 1000 ten-thousandths.
+        Unit::HPa => nearest(1000 * tenths + 133 * decimetres, 1000),
+        // 0.01 mm Hg each: hundredths times ten-thousandths are millionths of hPa.
+        Unit::MmHg => nearest((10 * tenths + decimetres) * MM_HG, 100_000),
+    };
+    Some(pressure as i32)
 }
 
 /// "Station pressure: reading plus scale correction, times 1.3332 and rounded to
@@ -117,17 +121,50 @@ mod tests {
     }
 
     #[test]
-    fn corrections_take_halves_away_from_zero() {
+    fn temperature_corrections_take_halves_away_from_zero() {
         assert_eq!(temperature(25, 20), 1);
         assert_eq!(temperature(-25, 20), -1);
         assert_eq!(temperature(24, 20), 0);
-        assert_eq!(height(Unit::HPa, 101, 0), 13);
-        // 18.487; a tenth of a metre more of 0.1333 would give 19.
-        assert_eq!(height(Unit::HPa, 139, 0), 18);
-        assert_eq!(height(Unit::HPa, 500, 0), 67);
-        assert_eq!(height(Unit::HPa, 0, -300), -40);
-        assert_eq!(height(Unit::MmHg, 105, 0), 11);
-        assert_eq!(height(Unit::MmHg, 0, -5), -1);
+    }
+
+    /// Sea level pressure of a reading whose other corrections are 0.
+    fn raised(unit: Unit, reading: i32, height: i32, difference: i32) -> i32 {
+        let ends = match unit {
+            Unit::HPa => [8500, 11000],
+            Unit::MmHg => [6400, 8250],
+        };
+        let settings = Settings {
+            unit,
+            height,
+            difference,
+            coefficient: 0,
+            psychrometer: 662,
+            certificate: &ends.map(|reading| Point {
+                reading,
+                correction: 0,
+            }),
+        };
+        sea_level(&Instruments::new(&settings).unwrap(), reading, 0).unwrap()
+    }
+
+    #[test]
+    fn the_height_correction_keeps_every_place() {
+        let hectopascals = |height, difference| raised(Unit::HPa, 10000, height, difference);
+        assert_eq!(hectopascals(101, 0), 10013);
+        // 1.8487; a tenth of a metre more of 0.1333 would give 19.
+        assert_eq!(hectopascals(139, 0), 10018);
+        // 6.65, the only height that comes to a half of a tenth.
+        assert_eq!(hectopascals(500, 0), 10067);
+        assert_eq!(hectopascals(0, -300), 9960);
+        // 0.1463: rounded to 0.01 first it would be 0.15, and then 0.2.
+        assert_eq!(hectopascals(11, 0), 10001);
+        let millimetres = |height, difference| raised(Unit::MmHg, 7400, height, difference);
+        // 739.95 times 1.3332 is 986.501. With -0.05 as -0.1 it would be 986.43, with 739.95 as 740.0 986.57.
+        assert_eq!(millimetres(0, -5), 9865);
+        // 740.05 times 1.3332 is 986.635; 740.1 would give 986.70.
+        assert_eq!(millimetres(5, 0), 9866);
+        // 740.14 times 1.3332 is 986.755; 740.1 would give 986.70.
+        assert_eq!(millimetres(300, -286), 9868);
     }
 
     #[test]

@@ -119,13 +119,13 @@ fn tendency_is_the_difference_of_two_rounded_pressures() {
 }
 
 #[test]
-fn each_correction_is_rounded_by_itself() {
-    // Scale 0.05, temperature 0.05 and height 0.05: each becomes 0.1.
+fn scale_and_temperature_are_rounded_and_the_height_is_not() {
+    // Scale 0.05 and temperature 0.05: each becomes 0.1. Height 0.05 stays.
     let mut ship = Ship::open(Unit::MmHg, 5, 0, 5, &[(7000, 0), (7002, 1)]);
     ship.says(0, 9, 700.1);
     ship.says(1, 9, 10.0);
-    // 700.4 times 1.3332 is 933.77
-    assert_eq!(ship.store.pressure(9), Ok(9338));
+    // 700.35 times 1.3332 is 933.707. With 0.1 for the height it would be 933.77, with none of them rounded 933.57.
+    assert_eq!(ship.store.pressure(9), Ok(9337));
 }
 
 #[test]

@@ -50,7 +50,7 @@ fn main() -> Result<(), Refused> {
     let mut settings = Settings {
         unit: Unit::Millimetres,
         height: 601,
-        difference: 0,
+        difference: -268, // the Caspian
         coefficient: 24,
         psychrometer: 662,
         certificate: &certificate,

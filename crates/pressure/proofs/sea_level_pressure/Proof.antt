@@ -17,7 +17,7 @@ use Rattle.pressure.proofs.sea_level_pressure.Statement.{statement}
 use Rattle.pressure.proofs.sea_level_pressure.Tie as tie
 use Rattle.number.proofs.Kept.number.Reads as number-reads
 use Rattle.pressure.proofs.corrected.Reads as corrected-reads
-use Rattle.pressure.proofs.in_hectopascals.Reads as in-hectopascals-reads
+use Rattle.pressure.proofs.rounded_once.Reads as rounded-once-reads
 use Rattle.pressure.proofs.scale_correction.Reads as scale-correction-reads
 use Rattle.pressure.proofs.tenths_in.Reads as tenths-in-reads
 use Rattle.quantity.proofs.BarometerUnit.holds.Reads as BarometerUnit-holds-reads
@@ -80,8 +80,8 @@ corrected-requires c κs =
       within-size (negℤ (pos 400)) (pos 600) (start .args .wheelhouse .0 .v) 600 (lit≤ tt) (lit≤ tt) j,
     )
 
-in-hectopascals-requires : tie.Need-in-hectopascals-requires
-in-hectopascals-requires c κs = search needs
+rounded-once-requires : tie.Need-rounded-once-requires
+rounded-once-requires c κs = search needs
 
 returns-3 : tie.Need-returns-3
 returns-3 c =
@@ -109,7 +109,7 @@ returns-4 c =
     let scale = c .before .before .before in
     sea-given s (start .args .reading) (read .before .unit .ensures) (read .tenths-in .ensures) (start .args .wheelhouse .0 .v) i j
     (worked s r (scale .scale .given .1) (scale .before .before .scale-correction .ensures))
-    (c .before .corrected .ensures .value) (c .in-hectopascals .ensures)
+    (c .before .corrected .ensures .value) (c .rounded-once .ensures)
 
 pub sea-level-pressure-spec : {M : Type 1} → statement M
 sea-level-pressure-spec =
@@ -126,6 +126,6 @@ sea-level-pressure-spec =
     enum-told
     enum-known-scale
     corrected-requires
-    in-hectopascals-requires
+    rounded-once-requires
     returns-3
     returns-4)
