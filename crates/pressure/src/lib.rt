@@ -1,5 +1,6 @@
 // The pressure at sea level and the pressure at the station, from a barometer's reading and its corrections.
-// A reading comes with its unit. Behind `tenths_in` a number is one of tenths of the unit that the store is set to.
+// A reading comes with its unit. Behind `tenths_in` a number is one of tenths of the unit that the store is set to, but where it is said
+// to be one of ten-thousandths.
 ghost use mathlib.Core.Path.{_≡_};
 ghost use mathlib.Core.Bool.{true};
 ghost use Prim.Native.Nat.{_≤_, _<_, _^_};

@@ -24,17 +24,30 @@ use Rattle.block.proofs.height.Reads as height-reads
 use Rattle.block.proofs.unit.Reads as unit-reads
 
 -- the two corrections as they were worked: of the block's settings, and the first so large at most
-warm : (s : List ℕ) (k t : ℤ) {r : ℤ} → r ≡ temperature k t → k ≡ settingOf s 3 → natAbs t ≤ 600 → (r ≡ temperature (settingOf s 3) t) × (natAbs r ≤ 19661)
-warm s k t {r} e f h =
-    let v = e ∙ ap (λ (z : ℤ). temperature z t) f in (v, le-trans (le-of-eq (ap natAbs v)) (temperature-stored (getD s 3 0) t h))
+module _ (c : tie.After-temperature-correction) where
+  abbrev start : tie.Start
+  start = c .before .before
 
-high : (s : List ℕ) (u : BarometerUnit) (h d : ℤ) {r : ℤ} → r ≡ height u h d → u ≡ unitOf s → h ≡ settingOf s 1 → d ≡ settingOf s 2
-    → r ≡ height (unitOf s) (settingOf s 1) (settingOf s 2)
-high s u h d e f x y =
-    e
-    ∙ ap (λ (w : BarometerUnit). height w h d) f
-    ∙ ap (λ (z : ℤ). height (unitOf s) z d) x
-    ∙ ap (height (unitOf s) (settingOf s 1)) y
+  abbrev words : List ℕ
+  words = now (start .args .store)
+
+  warm-is : c .temperature-correction .result .v ≡ temperature (settingOf words 3) (start .args .wheelhouse .0 .v)
+  warm-is = c .temperature-correction .ensures ∙ ap (λ (z : ℤ). temperature z (start .args .wheelhouse .0 .v)) (c .before .coefficient .ensures)
+
+  warm-size : natAbs (c .temperature-correction .result .v) ≤ 19661
+  warm-size = le-trans (le-of-eq (ap natAbs warm-is)) (temperature-stored (getD words 3 0) (start .args .wheelhouse .0 .v) (start .pre .2))
+
+high-is : (c : tie.After-height-correction) → let s = now (c .before .before .before .before .before .before .args .store) in
+    c .height-correction .result .v ≡ height (unitOf s) (settingOf s 1) (settingOf s 2)
+high-is c =
+    let s = now (c .before .before .before .before .before .before .args .store) in
+    let u = c .before .before .before .unit in
+    let h = c .before .before .height in
+    let d = c .before .difference in
+    c .height-correction .ensures .value
+    ∙ ap (λ (w : BarometerUnit). height w (h .result .0 .v) (d .result .0 .v)) (u .ensures)
+    ∙ ap (λ (z : ℤ). height (unitOf s) z (d .result .0 .v)) (h .ensures)
+    ∙ ap (height (unitOf s) (settingOf s 1)) (d .ensures)
 
 coefficient-requires : tie.Need-coefficient-requires
 coefficient-requires c κs = search needs
@@ -60,48 +73,44 @@ plus-requires c κs = search needs
 plus-requires-2 : tie.Need-plus-requires-2
 plus-requires-2 c κs =
     let at = c .before .before .before .before .before in
-    let start = at .before .before in
-    let s = now (start .args .store) in
-    let t = warm s (at .before .coefficient .result .0 .v) (start .args .wheelhouse .0 .v) (at .temperature-correction .ensures) (at .before .coefficient .ensures) (start .pre .2) in
-    omega (arith, t .1, c .plus .ensures .size, start .pre .0, start .pre .1)
+    omega (arith, warm-size at, c .plus .ensures .size, start at .pre .0, start at .pre .1)
 
 times-requires : tie.Need-times-requires
 times-requires c κs =
     let at = c .before .before .before .before .before .before in
-    let start = at .before .before in
-    let s = now (start .args .store) in
-    let t = warm s (at .before .coefficient .result .0 .v) (start .args .wheelhouse .0 .v) (at .temperature-correction .ensures) (at .before .coefficient .ensures) (start .pre .2) in
-    omega (arith, t .1, c .plus2 .ensures .size, c .before .plus .ensures .size, start .pre .0, start .pre .1)
+    omega (arith, warm-size at, c .plus2 .ensures .size, c .before .plus .ensures .size, start at .pre .0, start at .pre .1)
 
 plus-requires-3 : tie.Need-plus-requires-3
 plus-requires-3 c κs =
-    let at = c .before .before .before .before .before .before .before in
-    let start = at .before .before in
-    let s = now (start .args .store) in
-    let t = warm s (at .before .coefficient .result .0 .v) (start .args .wheelhouse .0 .v) (at .temperature-correction .ensures) (at .before .coefficient .ensures) (start .pre .2) in
     let up = c .before .before .before in
-    omega (arith, t .1, up .height-correction .ensures .size, c .times .ensures .size, c .before .plus2 .ensures .size, c .before .before .plus .ensures .size, start .pre .0, start .pre .1)
+    let at = up .before .before .before .before in
+    omega (
+      arith,
+      warm-size at,
+      up .height-correction .ensures .size,
+      c .times .ensures .size,
+      c .before .plus2 .ensures .size,
+      c .before .before .plus .ensures .size,
+      start at .pre .0,
+      start at .pre .1,
+    )
 
 returns : tie.Need-returns
 returns c =
-    let at = c .before .before .before .before .before .before .before .before in
-    let start = at .before .before in
-    let s = now (start .args .store) in
-    let t = warm s (at .before .coefficient .result .0 .v) (start .args .wheelhouse .0 .v) (at .temperature-correction .ensures) (at .before .coefficient .ensures) (start .pre .2) in
     let up = c .before .before .before .before in
-    let h = high s (up .before .before .before .unit .result) (up .before .before .height .result .0 .v) (up .before .difference .result .0 .v) (up .height-correction .ensures .value) (up .before .before .before .unit .ensures) (up .before .before .height .ensures) (up .before .difference .ensures) in
+    let at = up .before .before .before .before in
     record {
-      value = rw (c .plus3 .ensures .value, c .before .times .ensures .value, c .before .before .plus2 .ensures .value, c .before .before .before .plus .ensures .value, t .0, h);
+      value = rw (c .plus3 .ensures .value, c .before .times .ensures .value, c .before .before .plus2 .ensures .value, c .before .before .before .plus .ensures .value, warm-is at, high-is up);
       size = omega (
         arith,
-        t .1,
+        warm-size at,
         up .height-correction .ensures .size,
         c .plus3 .ensures .size,
         c .before .times .ensures .size,
         c .before .before .plus2 .ensures .size,
         c .before .before .before .plus .ensures .size,
-        start .pre .0,
-        start .pre .1,
+        start at .pre .0,
+        start at .pre .1,
       );
     }
 

@@ -1,6 +1,5 @@
 -- `height_correction` meets its contract: two kept numbers added, and 133 or 100 times that, fit. Assumes nothing.
 use mathlib.Core.Path.{ap₂, _∙_}
-use native.Mathlib.Omega.{arith}
 use lib.IntN.{_+ℤ_}
 use Rattle.pressure.specs.Pressure.{height}
 use borrow.Author.Needs.{needs}
