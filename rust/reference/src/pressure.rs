@@ -56,7 +56,7 @@ pub fn hectopascals(unit: Unit, tenths: i32) -> i32 {
 ///
 /// "Height correction: (H + difference) times 0.133 hPa or 0.1 mm Hg", and by
 /// document 02 "the height correction is exact and only the final pressure is
-/// rounded": the sum is taken in parts that a tenth of a metre makes whole.
+/// rounded": the sum is in parts of which a tenth of a metre is a whole number.
 #[inline]
 pub fn sea_level(instruments: &Instruments, reading: i32, wheelhouse: i32) -> Option<i32> {
     let tenths = i64::from(
