@@ -1,12 +1,14 @@
 -- What the worked pressures are worth. For settings that a store opens with, and readings within their limits, each lies within
 -- what a watch file records, and so does any change of one: a reading is moved by at most 20.0 of its unit (5.0, 3.0 and 12.0).
--- A block that was opened works as its settings say. And the two units of pressure are kept apart. Assumes nothing.
+-- A block that was opened works as its settings say. And the two units of pressure are kept apart, with a factor that is the paper's.
+-- Assumes nothing.
 use mathlib.Core.Path.{_≡_, refl, ap, _∙_}
 use mathlib.Core.Bool.{true, false, not, _&&_}
 use Prim.Native.Nat.{ℕ, zero, suc, _+_, _-_, _*_, _≤_, _<_}
 use native.Mathlib.Omega.{arith}
 use lib.Dec.{lit≤}
 use lib.IntN.{ℤ, pos, negℤ, natAbs, _+ℤ_, _-ℤ_}
+use Rattle.number.specs.Round.{nearest, rounded}
 use Rattle.number.specs.Refusal.{refused, given, answer}
 use Rattle.number.proofs.Sizes.{within-size, and-true, natural}
 use Rattle.quantity.specs.Limits.{inside, pressureLimits, recordedPressure, wheelhouse}
@@ -19,7 +21,7 @@ use Rattle.settings.specs.declared.Settings.{Settings}
 use Rattle.settings.specs.declared.Point.{Point}
 use Rattle.block.specs.Words.{opened}
 use Rattle.block.proofs.SettingsLaws.{others, each, settings-back}
-use Rattle.pressure.specs.Pressure.{Barometer, barometerIn, barometerOf, around, scaleFrom, scale, outside, inUnit, tenthsIn, temperature, perMetre, height, seaLevel, stationPressure, seaLevelAnswer, stationAnswer}
+use Rattle.pressure.specs.Pressure.{Barometer, barometerIn, barometerOf, around, scaleFrom, scale, outside, inUnit, tenthsIn, temperature, perMetre, height, factor, seaLevel, stationPressure, seaLevelAnswer, stationAnswer}
 use Rattle.pressure.proofs.ScaleLaws.{two}
 use Rattle.pressure.proofs.SizeLaws.{scale-size, temperature-size, height-size}
 use Rattle.pressure.proofs.NearLaws.{Among, apart, recorded, fewest, most, tenths-near, sea-level-near, station-near}
@@ -141,7 +143,12 @@ opened-alike g good =
     let s = settings-back g good in
     record { unit = s .unit; height = s .height; difference = s .difference; coefficient = s .coefficient; points = s .points; point = s .point }
 
--- ---- "millimetres of mercury and hectopascals, are kept apart"
+-- ---- "millimetres of mercury and hectopascals, are kept apart until a formula joins them"
+
+-- "times 1.3332 if in mm Hg", exactly: in ten-thousandths
+pub factor-is : (factor Hectopascals ≡ pos 10000) × (factor Millimetres ≡ pos 13332)
+unfolding nearest rounded
+factor-is = (refl, refl)
 
 -- A figure in the barometer's own unit says its tenths.
 pub own-unit : (u : BarometerUnit) (z : ℤ) → (inUnit u (pressure u z) ≡ true) × (tenthsIn u (pressure u z) ≡ z)
