@@ -1,5 +1,6 @@
 -- Sea level pressure and station pressure (document 01, "Pressure and tendency" and "Humidity"; document 02, W2; 004, section 6).
--- A reading comes with its unit, as a figure. Without it readings, corrections and temperatures are in tenths.
+-- A reading comes with its unit, as a figure. Without it readings, corrections and temperatures are in tenths, but the height
+-- correction, which is exact, in ten-thousandths.
 use mathlib.Core.Bool.{Bool, true, false, not, _&&_, _||_, cond}
 use mathlib.Core.List.{List, [], _∷_}
 use Prim.Native.Nat.{ℕ, zero, suc, _+_, _-_, _*_}

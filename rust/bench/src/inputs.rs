@@ -45,10 +45,12 @@ pub fn open_proved(barometer: &Barometer) -> Store {
 }
 
 pub fn open_independent(barometer: &Barometer) -> station::Store {
-    let certificate = barometer.points.map(|(reading, correction)| settings::Point {
-        reading,
-        correction,
-    });
+    let certificate = barometer
+        .points
+        .map(|(reading, correction)| settings::Point {
+            reading,
+            correction,
+        });
     let settings = settings::Settings {
         unit: if barometer.mm_hg {
             settings::Unit::MmHg

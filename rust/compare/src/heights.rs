@@ -1,7 +1,7 @@
 //! Sea level pressure at every sum of height and difference, so at every half that a height correction or its sum can come to, in
 //! both units: in mm Hg with every reading, in hPa, where no reading changes what is rounded, with some.
 
-use crate::pair::{tenths, Chosen, Pair};
+use crate::pair::{barometer, tenths, Chosen, Pair};
 use crate::tally::Tally;
 
 /// Height and difference that come to so many tenths of a metre: as low over the sea as may be, and as high.
@@ -11,11 +11,8 @@ fn ways(sum: i32) -> [(i32, i32); 2] {
 
 /// Each way gets every other reading.
 fn readings(mm_hg: bool, way: usize) -> impl Iterator<Item = i32> {
-    let (low, high, step) = if mm_hg {
-        (6400, 8250, 2)
-    } else {
-        (8500, 11000, 250)
-    };
+    let (low, high) = barometer(mm_hg);
+    let step = if mm_hg { 2 } else { 250 };
     (low + step / 2 * way as i32..=high).step_by(step as usize)
 }
 

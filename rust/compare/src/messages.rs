@@ -1,7 +1,7 @@
 //! Messages: random, damaged, and bent towards every edge of a value. Each is sent beside good readings of the other channels, so
 //! that the questions then show what was kept of it. And messages that are repeated or late, by every edge of how late.
 
-use crate::pair::{message, not_later, Chosen, Pair, LAST};
+use crate::pair::{barometer, message, not_later, Chosen, Pair, LAST};
 use crate::random::Random;
 use crate::tally::Tally;
 
@@ -21,8 +21,7 @@ fn good(channel: u8, minute: u32, mm_hg: bool) -> [u8; 16] {
 /// The limits of a channel's first value, in tenths.
 fn limits(channel: u8, mm_hg: bool) -> (i32, i32) {
     match channel {
-        0 if mm_hg => (6400, 8250),
-        0 => (8500, 11000),
+        0 => barometer(mm_hg),
         1 => (-400, 600),
         2 => (0, 750),
         3 => (0, 400),

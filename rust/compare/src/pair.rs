@@ -10,6 +10,15 @@ use crate::tally::{Answer, Tally};
 /// The last minute there is.
 pub const LAST: u32 = 16_777_215;
 
+/// The limits of a barometer's reading, in tenths of its unit.
+pub fn barometer(mm_hg: bool) -> (i32, i32) {
+    if mm_hg {
+        (6400, 8250)
+    } else {
+        (8500, 11000)
+    }
+}
+
 /// Settings that either side can be given.
 #[derive(Clone, Debug)]
 pub struct Chosen {
@@ -24,7 +33,7 @@ pub struct Chosen {
 impl Chosen {
     /// Corrections that leave the reading as it is.
     pub fn plain(mm_hg: bool) -> Chosen {
-        let (low, high) = if mm_hg { (6400, 8250) } else { (8500, 11000) };
+        let (low, high) = barometer(mm_hg);
         Chosen {
             mm_hg,
             height: 0,

@@ -1,6 +1,6 @@
 //! Whole watches of several stores, interleaved, and questions at every kind of minute.
 
-use crate::pair::{not_later, tenths, Chosen, Pair, LAST};
+use crate::pair::{barometer, not_later, tenths, Chosen, Pair, LAST};
 use crate::random::Random;
 use crate::tally::Tally;
 
@@ -9,7 +9,7 @@ const STORES: usize = 4;
 /// Settings, mostly within their limits and often at them; sometimes outside.
 pub fn chosen(r: &mut Random) -> Chosen {
     let mm_hg = r.once_in(2);
-    let (low, high) = if mm_hg { (6400, 8250) } else { (8500, 11000) };
+    let (low, high) = barometer(mm_hg);
     let wrong = r.once_in(4);
     let value = |r: &mut Random, low: i32, high: i32| match r.below(8) {
         0 => low,
@@ -82,14 +82,10 @@ impl Ship {
     /// A reading that the instruments could have.
     fn reading(&self, r: &mut Random, channel: u8) -> (i32, i32) {
         match channel {
-            0 if r.once_in(12) => (
-                if self.mm_hg {
-                    r.within(6400, 8250)
-                } else {
-                    r.within(8500, 11000)
-                },
-                0,
-            ),
+            0 if r.once_in(12) => {
+                let (low, high) = barometer(self.mm_hg);
+                (r.within(low, high), 0)
+            }
             0 => (r.within(self.points.0, self.points.1), 0),
             1 => (r.within(-400, 600), 0),
             2 => (r.within(0, 750), r.within(0, 360)),

@@ -85,6 +85,7 @@ pub fn station(instruments: &Instruments, reading: i32) -> Option<i32> {
 #[cfg(test)]
 mod tests {
     use super::*;
+    use crate::message;
     use crate::settings::{Point, Settings};
 
     fn certificate(unit: Unit, points: &[(i32, i32)]) -> Certificate {
@@ -129,10 +130,8 @@ mod tests {
 
     /// Sea level pressure of a reading whose other corrections are 0.
     fn raised(unit: Unit, reading: i32, height: i32, difference: i32) -> i32 {
-        let ends = match unit {
-            Unit::HPa => [8500, 11000],
-            Unit::MmHg => [6400, 8250],
-        };
+        let limits = message::barometer(unit);
+        let ends = [*limits.start(), *limits.end()];
         let settings = Settings {
             unit,
             height,
