@@ -11,7 +11,7 @@ use lib.ListN.{getD, drop, length}
 use lib.Seq.{getD-take, getD-drop}
 use borrow.Author.Tests.{leb-true, ne-eqb, le-ltb, not-false}
 use Rattle.number.specs.Refusal.{given}
-use Rattle.number.proofs.Sizes.{and-true}
+use Rattle.number.proofs.Sizes.{and-true, fails}
 use Rattle.quantity.specs.declared.BarometerUnit.{BarometerUnit}
 use Rattle.quantity.specs.declared.BarometerUnit.the-variants.{Hectopascals, Millimetres}
 use Rattle.settings.specs.Settings.{every, pointHolds, pointAt, rises, certificateHolds, checked}
@@ -22,7 +22,6 @@ use Rattle.window.specs.Window.{next}
 use Rattle.cell.specs.Cells.{CHANNELS}
 use Rattle.block.specs.Layout.{POINTS, SETTINGS, WORDS, base}
 use Rattle.block.specs.Words.{unitWord, openedWord, opened, isStore, unitOf, windowOf}
-use Rattle.cell.proofs.ReceivedLaws.{fails}
 use Rattle.block.proofs.ListedLaws.{length-listed, getD-listed}
 
 marked : (u : BarometerUnit) → isStore (unitWord u ∷ []) ≡ true

@@ -10,7 +10,7 @@ use lib.IntN.{ℤ, pos, negℤ, natAbs, _-ℤ_}
 use borrow.Author.Tests.{lt-ltb, ne-eqb, not-false}
 use Rattle.number.specs.Refusal.{given}
 use Rattle.settings.proofs.RefusalsInOrder.{settings-good}
-use Rattle.number.proofs.Sizes.{within-size, and-true}
+use Rattle.number.proofs.Sizes.{within-size, and-true, fails}
 use Rattle.quantity.specs.Limits.{Limits, inside, pressureLimits}
 use Rattle.settings.specs.Settings.{height, difference, coefficient, psychrometer, correction, pointAt, pointHolds, certificateHolds, othersHold, checked}
 use Rattle.settings.proofs.EveryLaws.{every-at}
@@ -22,7 +22,6 @@ use Rattle.cell.specs.Cells.{biased, unbiased}
 use Rattle.block.specs.Words.{pointWord, openedWord, opened, unitOf, settingOf, pointsOf, pointIn, pointOf}
 use Rattle.cell.proofs.CellLaws.{biased-lt, unbiased-back}
 use Rattle.block.proofs.OpenedLaws.{word-at, opened-unit, certificate, few}
-use Rattle.cell.proofs.ReceivedLaws.{fails}
 
 plain : (z : ℤ) → natAbs z < 32768 → unbiased (biased z) ≡ z
 plain z h = let b = biased-lt z h in let e : biased z ≡ biased z % 65536 + 65536 * 0 = omega arith in ap unbiased e ∙ unbiased-back z 0 h

@@ -14,11 +14,14 @@ use Rattle.number.proofs.Sizes.{never, within-size, natural, and-true}
 use Rattle.quantity.specs.Limits.{Limits, inside, pressureLimits, hectopascals, millimetres, wheelhouse, bulb, metresPerSecond, knots, degrees}
 use Rattle.quantity.specs.declared.BarometerUnit.{BarometerUnit}
 use Rattle.quantity.specs.declared.BarometerUnit.the-variants.{Hectopascals, Millimetres}
+use Rattle.quantity.specs.States.{stateNumber, isState, stateOf}
+use Rattle.quantity.specs.declared.BulbState.{BulbState}
+use Rattle.quantity.specs.declared.BulbState.the-variants.{Water, Ice, Unknown}
 use Rattle.wire.specs.Bytes.{minute}
 use Rattle.wire.specs.Decode.{message}
 use Rattle.message.specs.Value.{tenths}
 use Rattle.message.specs.Value as value
-use Rattle.message.specs.Receive.{Figure, hPa, mmHg, °C, m/s, kn, deg, none, Entry, entry, outside, compass, pressure, received}
+use Rattle.message.specs.Receive.{Figure, hPa, mmHg, °C, m/s, kn, deg, wick, none, Entry, entry, outside, compass, pressure, received}
 use Rattle.wire.specs.declared.Message.{Message}
 use Rattle.wire.specs.declared.Message.the-variants.{Barometer, Wheelhouse, ApparentWind, ShipMotion, DryBulb, WetBulb}
 use Rattle.cell.specs.Cells.{CHANNELS, biased, unbiased, cellOf, entryIn, soundIn}
@@ -126,6 +129,25 @@ barometer-back : (u : BarometerUnit) (t : ℕ) (z : ℤ) → inside (pressureLim
 barometer-back Hectopascals t z i = one-back Hectopascals 0 t hectopascals hPa (size-back hectopascals (lit< tt, lit< tt) z i refl 0) i refl refl
 barometer-back Millimetres t z i = one-back Millimetres 0 t millimetres mmHg (size-back millimetres (lit< tt, lit< tt) z i refl 0) i refl refl
 
+-- a temperature, and the state beside it by its number
+abbrev wet : ℕ → BulbState → ℤ → Entry
+wet t s z = record { channel = 5; minute = t; first = °C z; second = wick s }
+
+state-half : (a n : ℕ) → n < 65536 → (a % 65536 + 65536 * n) / 65536 % 65536 ≡ n
+state-half a n h = omega arith
+
+state-back : (s : BulbState) → (stateNumber s < 65536) × (isState (stateNumber s) ≡ true) × (stateOf (stateNumber s) ≡ s)
+state-back Water = (lit< tt, refl, refl)
+state-back Ice = (lit< tt, refl, refl)
+state-back Unknown = (lit< tt, refl, refl)
+
+wet-back : (u : BarometerUnit) (t : ℕ) (s : BulbState) (z : ℤ) → inside bulb z ≡ true → Back u (wet t s z)
+wet-back u t s z i =
+    let back = state-back s in
+    let first = signed-back bulb (lit< tt, lit< tt) z i (stateNumber s) in
+    let half = state-half (biased z) (stateNumber s) (back .0) in
+    record { sound = rw (first, i, half, back .1); same = rw (first, half, back .2) }
+
 kind-back : (u : BarometerUnit) (t : ℕ) (k : Message) → outside u k ≡ false → Back u (entry u t k) × (entry u t k .channel < CHANNELS)
 kind-back u t (Barometer x) o = (barometer-back u t (tenths x) (not-false (inside (pressureLimits u) (tenths x)) o), lit< tt)
 kind-back u t (Wheelhouse x) o =
@@ -138,9 +160,7 @@ kind-back u t (ShipMotion p) o =
 kind-back u t (DryBulb x) o =
     let i = not-false (inside bulb (tenths x)) o in
     (one-back u 4 t bulb °C (signed-back bulb (lit< tt, lit< tt) (tenths x) i 0) i refl refl, lit< tt)
-kind-back u t (WetBulb x) o =
-    let i = not-false (inside bulb (tenths x)) o in
-    (one-back u 5 t bulb °C (signed-back bulb (lit< tt, lit< tt) (tenths x) i 0) i refl refl, lit< tt)
+kind-back u t (WetBulb s x) o = (wet-back u t s (tenths x) (not-false (inside bulb (tenths x)) o), lit< tt)
 
 pub received-back : (u : BarometerUnit) (m : List ℕ) (e : Entry) → received u m ≡ given e → Back u e × (e .channel < CHANNELS)
 received-back u m e r =

@@ -1,33 +1,30 @@
 -- What follows from a message that was received: none of the seven tests holds of it. Assumes nothing.
 use mathlib.Core.Path.{_≡_, refl, sym, ap, _∙_}
-use mathlib.Core.Bool.{Bool, true, false, not}
+use mathlib.Core.Bool.{false, not}
 use mathlib.Core.List.{List}
 use Prim.Native.Nat.{ℕ, zero, suc, _≤_}
 use native.Mathlib.Omega.{arith}
-use lib.Dec.{T, eqb, ltb}
+use lib.Dec.{eqb, ltb}
 use lib.Ieee.{Float}
 use lib.ListN.{length}
 use borrow.Author.Tests.{eqb-true, ltb-false, not-false}
 use Rattle.number.specs.Refusal.{given, HoldsAt}
 use Rattle.number.proofs.RefusalLaws.{given-then, given-is}
+use Rattle.number.proofs.Sizes.{fails}
 use Rattle.quantity.specs.declared.BarometerUnit.{BarometerUnit}
-use Rattle.wire.specs.Bytes.{channel, minute, first, second}
+use Rattle.wire.specs.Bytes.{channel, state, minute, first, second}
 use Rattle.wire.specs.Kinds.{kind}
 use Rattle.wire.specs.Decode.{message}
 use Rattle.message.specs.Receive.{Entry, entry, outside, tests, received}
 
-pub fails : (b : Bool) → (T b → ⊥) → b ≡ false
-fails true n = absurd (n tt)
-fails false n = refl
-
-entry-channel : (u : BarometerUnit) (t n : ℕ) (x y : Float) → n ≤ 5 → entry u t (kind n x y) .channel ≡ n
-entry-channel u t zero x y l = refl
-entry-channel u t (suc zero) x y l = refl
-entry-channel u t (suc (suc zero)) x y l = refl
-entry-channel u t (suc (suc (suc zero))) x y l = refl
-entry-channel u t (suc (suc (suc (suc zero)))) x y l = refl
-entry-channel u t (suc (suc (suc (suc (suc zero))))) x y l = refl
-entry-channel u t (suc (suc (suc (suc (suc (suc n)))))) x y l = absurd (omega arith)
+entry-channel : (u : BarometerUnit) (t n s : ℕ) (x y : Float) → n ≤ 5 → entry u t (kind n s x y) .channel ≡ n
+entry-channel u t zero s x y l = refl
+entry-channel u t (suc zero) s x y l = refl
+entry-channel u t (suc (suc zero)) s x y l = refl
+entry-channel u t (suc (suc (suc zero))) s x y l = refl
+entry-channel u t (suc (suc (suc (suc zero)))) s x y l = refl
+entry-channel u t (suc (suc (suc (suc (suc zero))))) s x y l = refl
+entry-channel u t (suc (suc (suc (suc (suc (suc n)))))) s x y l = absurd (omega arith)
 
 module _ (u : BarometerUnit) (m : List ℕ) (e : Entry) (r : received u m ≡ given e) where
   pub received-is : entry u (minute m) (message m) ≡ e
@@ -50,4 +47,4 @@ module _ (u : BarometerUnit) (m : List ℕ) (e : Entry) (r : received u m ≡ gi
 
   pub received-channel : e .channel ≡ channel m
   received-channel =
-      ap (λ (z : Entry). z .channel) (sym received-is) ∙ entry-channel u (minute m) (channel m) (first m) (second m) received-low
+      ap (λ (z : Entry). z .channel) (sym received-is) ∙ entry-channel u (minute m) (channel m) (state m) (first m) (second m) received-low

@@ -1,11 +1,13 @@
--- How a reading stands in a cell, and what a cell says: its first figure in the low half, its second in the high half of 32 bits.
-use mathlib.Core.Bool.{Bool, _&&_, _||_, not, cond}
+-- How a reading stands in a cell, and what a cell says: its first figure in the low half, its second in the high half of 32 bits, a
+-- state by its number.
+use mathlib.Core.Bool.{Bool, true, _&&_, _||_, cond}
 use Prim.Native.Nat.{ℕ, _+_, _*_, _/_, _%_}
 use lib.Dec.{eqb, ltb}
 use lib.IntN.{ℤ, pos, natAbs, _+ℤ_, _-ℤ_}
 use Rattle.quantity.specs.Limits.{Limits, inside, pressureLimits, wheelhouse, bulb, metresPerSecond, knots, degrees}
+use Rattle.quantity.specs.States.{stateNumber, isState, stateOf}
 use Rattle.quantity.specs.declared.BarometerUnit.{BarometerUnit}
-use Rattle.message.specs.Receive.{Figure, hPa, mmHg, °C, m/s, kn, deg, none, Entry, pressure, entryOf}
+use Rattle.message.specs.Receive.{Figure, hPa, mmHg, °C, m/s, kn, deg, wick, none, Entry, pressure, entryOf}
 use Rattle.cell.specs.declared.Recalled.{Recalled}
 use Rattle.cell.specs.declared.Recalled.the-variants.{Missing, Kept}
 
@@ -27,6 +29,7 @@ half (°C z) = biased z % 65536
 half (m/s z) = natAbs z % 65536
 half (kn z) = natAbs z % 65536
 half (deg z) = natAbs z % 65536
+half (wick s) = stateNumber s
 half none = 0
 
 abbrev pub cellOf : Entry → ℕ
@@ -44,7 +47,10 @@ firstIn u c v =
     (°C (unbiased v))))
 
 abbrev pub secondIn : ℕ → ℕ → Figure
-secondIn c v = cond (paired c) (deg (pos (v / 65536 % 65536))) none
+secondIn c v =
+    cond (paired c) (deg (pos (v / 65536 % 65536)))
+    (cond (eqb c 5) (wick (stateOf (v / 65536 % 65536)))
+    none)
 
 abbrev pub entryIn : BarometerUnit → ℕ → ℕ → ℕ → Entry
 entryIn u c m v = record { channel = c; minute = m; first = firstIn u c v; second = secondIn c v }
@@ -61,8 +67,15 @@ limitsOf u c =
     (cond (eqb c 3) knots
     bulb)))
 
+-- Whether a direction lies within its limits, or a state is one.
+abbrev pub soundBeside : ℕ → ℕ → Bool
+soundBeside c v =
+    cond (paired c) (inside degrees (pos (v / 65536 % 65536)))
+    (cond (eqb c 5) (isState (v / 65536 % 65536))
+    true)
+
 abbrev pub soundIn : BarometerUnit → ℕ → ℕ → Bool
-soundIn u c v = inside (limitsOf u c) (numberIn c v) && (not (paired c) || inside degrees (pos (v / 65536 % 65536)))
+soundIn u c v = inside (limitsOf u c) (numberIn c v) && soundBeside c v
 
 -- ---- what is kept of a channel's minute
 

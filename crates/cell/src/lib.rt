@@ -8,6 +8,7 @@ use message::Reading;
 use number::Kept;
 use number::Number;
 use quantity::BarometerUnit;
+use quantity::BulbState;
 use quantity::BulbTemperature;
 use quantity::Degrees;
 use quantity::Hectopascals;
@@ -67,7 +68,7 @@ pub fn cell_of(r: Reading) -> u64
         Reading::ApparentWind(v, d) => pair_cell(v.0, d.0),
         Reading::ShipMotion(v, d) => pair_cell(v.0, d.0),
         Reading::DryBulb(t) => biased(t.0) % 65536,
-        Reading::WetBulb(t) => biased(t.0) % 65536,
+        Reading::WetBulb(s, t) => biased(t.0) % 65536 + 65536 * (s.number() as u64),
     }
 }
 
@@ -130,15 +131,26 @@ fn pair_in(ship: bool, v: u64) -> Recalled
     Recalled::Missing
 }
 
-fn bulb_in(wet: bool, v: u64) -> Recalled
-    ensures { λ r. ⌜ ((u : BarometerUnit) (m : ℕ) → recalledAs m r ≡ cellSays u (cond wet 5 4) m v) ⌝ }
+fn dry_bulb_in(v: u64) -> Recalled
+    ensures { λ r. ⌜ ((u : BarometerUnit) (m : ℕ) → recalledAs m r ≡ cellSays u 4 m v) ⌝ }
 {
     let t = unbiased(v);
     if BulbTemperature::holds(t.number()) {
-        if wet {
-            return Recalled::Kept(Reading::WetBulb(BulbTemperature(t)));
-        }
         return Recalled::Kept(Reading::DryBulb(BulbTemperature(t)));
+    }
+    Recalled::Missing
+}
+
+fn wet_bulb_in(v: u64) -> Recalled
+    ensures { λ r. ⌜ ((u : BarometerUnit) (m : ℕ) → recalledAs m r ≡ cellSays u 5 m v) ⌝ }
+{
+    let state = half(v / 65536);
+    if !BulbState::holds(state) {
+        return Recalled::Missing;
+    }
+    let t = unbiased(v);
+    if BulbTemperature::holds(t.number()) {
+        return Recalled::Kept(Reading::WetBulb(BulbState::numbered(state), BulbTemperature(t)));
     }
     Recalled::Missing
 }
@@ -160,10 +172,10 @@ pub fn reading_in(unit: BarometerUnit, channel: u32, v: u64) -> Recalled
         return pair_in(true, v);
     }
     if channel == 4 {
-        return bulb_in(false, v);
+        return dry_bulb_in(v);
     }
     if channel == 5 {
-        return bulb_in(true, v);
+        return wet_bulb_in(v);
     }
     Recalled::Missing
 }

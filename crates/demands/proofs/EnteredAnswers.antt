@@ -10,7 +10,7 @@ use Rattle.quantity.specs.Limits.{inside, recordedPressure}
 use Rattle.settings.specs.Settings.{checked}
 use Rattle.settings.specs.declared.Settings.{Settings}
 use Rattle.wind.specs.declared.TrueWind.the-variants.{Blows}
-use Rattle.vapour.proofs.TableExists.{the-table}
+use Rattle.vapour.proofs.TablesExist.{the-tables}
 use Rattle.station.specs.Source.{heard}
 use Rattle.station.specs.Questions.{Asked, pressure, tendency, wind, humidity, question, Reply, Tells}
 use Rattle.station.specs.Told.{Change}
@@ -62,7 +62,7 @@ module _ (g : Settings) (good : checked g ≡ given tt) (M : List (List ℕ)) (m
   made pressure (pressed.Refused n) w f e = impossible (cc)
   made pressure (pressed.Given p) w f e =
       let is : p .0 .v ≡ f = cc in
-      let told = w (the-table .0) (the-table .1) in
+      let told = w (the-tables .0) (the-tables .1) in
       let within = pressure-inside g good M m (p .0 .v) told in
       record {
         the-record = pressureRecord m (p .0 .v);
@@ -74,7 +74,7 @@ module _ (g : Settings) (good : checked g ≡ given tt) (M : List (List ℕ)) (m
   made tendency (changed.Given c n) w f e =
       let t : Change = record { change = c .0 .v; absent = n } in
       let is : t ≡ f = cc in
-      let told = w (the-table .0) (the-table .1) in
+      let told = w (the-tables .0) (the-tables .1) in
       record {
         the-record = tendencyRecord m t;
         entered = tendency-fits (the-rule .0) 0 m c n (tendency-record g good M m t told (the-rule .0));
@@ -83,7 +83,7 @@ module _ (g : Settings) (good : checked g ≡ given tt) (M : List (List ℕ)) (m
       }
   made wind (blew.Refused n) w f e = impossible (cc)
   made wind (blew.Given v d) w f e =
-      let told = w (the-table .0) (the-table .1) in
+      let told = w (the-tables .0) (the-tables .1) in
       record {
         the-record = windRecord m v d;
         entered = wind-fits (the-rule .0) 0 m v d (wind-record g good M m v d told (the-rule .0));

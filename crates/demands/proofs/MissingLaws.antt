@@ -18,7 +18,8 @@ use Rattle.store.specs.Block.{recallOf}
 use Rattle.store.specs.History.{isPresent}
 use Rattle.store.proofs.HistoryLaws.{store-remembers}
 use Rattle.store.proofs.StoreTheorems.{stays-absent-on}
-use Rattle.vapour.proofs.TableExists.{the-table}
+use Rattle.vapour.specs.Vapour.{Tables}
+use Rattle.vapour.proofs.TablesExist.{the-tables}
 use Rattle.station.specs.Source.{Source, heard}
 use Rattle.station.specs.Questions.{Asked, pressure, tendency, wind, humidity, question, Reply, isIn, reads, Answers, Tells}
 use Rattle.station.proofs.AnswerLaws.{passed}
@@ -42,11 +43,11 @@ in-each P (d ∷ ds) c i all = go (eqb c d) refl i (in-each P ds c)
 
 -- ---- figures were worked from what is there
 
-module _ (S : Source) (m : ℕ) (table : ℤ → ℕ) where
+module _ (S : Source) (m : ℕ) (tables : Tables) where
   abbrev There : ℕ → ℕ → Type 0
   There c j = isPresent (S .recall c j) ≡ true
 
-  there : (q : Asked) (f : question q .Figures) → Answers (question q .tests [] table S m) (question q .Rule S m) (given f)
+  there : (q : Asked) (f : question q .Figures) → Answers (question q .tests [] tables S m) (question q .Rule S m) (given f)
       → (c j : ℕ) → reads q m c j ≡ true → There c j
   there pressure f w c j r =
       let R = question pressure .Rule S m in
@@ -94,11 +95,11 @@ module _ (S : Source) (m : ℕ) (table : ℤ → ℕ) where
 -- a question that reads a missing minute is refused
 refused-there : (q : Asked) (S : Source) (m : ℕ) (x : Reply q) → Tells q S m x → (c j : ℕ) → reads q m c j ≡ true → S .recall c j ≡ absent
     → (n : Numbered) × (question q .told x ≡ refused n)
-refused-there q S m x w c j r e = go (question q .told x) (w (the-table .0) (the-table .1))
+refused-there q S m x w c j r e = go (question q .told x) (w (the-tables .0) (the-tables .1))
   where
-    go : (a : Answer Numbered (question q .Figures)) → Answers (question q .tests [] (the-table .0) S m) (question q .Rule S m) a → (n : Numbered) × (a ≡ refused n)
+    go : (a : Answer Numbered (question q .Figures)) → Answers (question q .tests [] (the-tables .0) S m) (question q .Rule S m) a → (n : Numbered) × (a ≡ refused n)
     go (refused n) v = (n, refl)
-    go (given f) v = (never (ap isPresent (sym e) ∙ there S m (the-table .0) q f v c j r))
+    go (given f) v = (never (ap isPresent (sym e) ∙ there S m (the-tables .0) q f v c j r))
 
 -- ---- it stays missing
 

@@ -135,11 +135,11 @@ module _ (p : Program) (meets : Meets p) where
   wind-280 : answerIn wind p (after others 280) ≡ question wind .told (blown 51 210)
   wind-280 = answer-is others 280 wind (blown 51 210) (watch.winds .1)
 
-  humidity-100 : answerIn humidity p (after quiet 100) ≡ question humidity .told (moist 1366 2335 969 59 116)
-  humidity-100 = answer-is quiet 100 humidity (moist 1366 2335 969 59 116) (watch.humidities .0)
+  humidity-100 : answerIn humidity p (after quiet 100) ≡ question humidity .told (moist 1366 2335 969 59 (pos 116))
+  humidity-100 = answer-is quiet 100 humidity (moist 1366 2335 969 59 (pos 116)) (watch.humidities .0)
 
-  humidity-280 : answerIn humidity p (after quiet 280) ≡ question humidity .told (moist 611 611 0 100 0)
-  humidity-280 = answer-is quiet 280 humidity (moist 611 611 0 100 0) (watch.humidities .1)
+  humidity-280 : answerIn humidity p (after quiet 280) ≡ question humidity .told (moist 611 611 0 100 (pos 0))
+  humidity-280 = answer-is quiet 280 humidity (moist 611 611 0 100 (pos 0)) (watch.humidities .1)
 
   -- ---- the five
 

@@ -17,7 +17,7 @@ use Rattle.settings.specs.declared.Settings.{Settings}
 use Rattle.settings.specs.declared.Checked.{Checked}
 use Rattle.settings.specs.declared.Checked.the-variants as opening
 use Rattle.settings.proofs.SingleAnswers.{case-of, case-back}
-use Rattle.wire.specs.declared.MessageRefusal.the-variants.{NotSixteenBytes, NoSuchChannel, ByteNotZero, WetBulbNotWater, MinuteTooLate, NotFinite, OutsideLimits}
+use Rattle.wire.specs.declared.MessageRefusal.the-variants.{NotSixteenBytes, NoSuchChannel, ByteNotZero, NoSuchState, MinuteTooLate, NotFinite, OutsideLimits}
 use Rattle.store.specs.Block.{openedBy, noStore, nextIn, hearing, hearTests, entryOfBytes, heardAs, heardBy, outcome}
 use Rattle.store.specs.History.{store-of}
 use Rattle.store.specs.declared.Hearing.{Hearing}
@@ -120,7 +120,7 @@ goes-on b m =
           (
             (Refused ByteNotZero, refl),
             (
-              (Refused WetBulbNotWater, refl),
+              (Refused NoSuchState, refl),
               (
                 (Refused MinuteTooLate, refl),
                 (
@@ -144,8 +144,8 @@ demand-1 =
     record {
       setting = by-settings;
       message = by-messages;
-      asked = λ q g M m x w table tabled n.
-          question-refused (question q .tests [] table (heard g M) m) (question q .Rule (heard g M) m) (question q .told x) (replies q g M m x w table tabled) n;
+      asked = λ q g M m x w tables tabled n.
+          question-refused (question q .tests [] tables (heard g M) m) (question q .Rule (heard g M) m) (question q .told x) (replies q g M m x w tables tabled) n;
       write = by-records;
       file = λ dew ruled s x w n. read-refused dew s x (read-is s x w dew ruled) n;
       listing = λ dew ruled s before after l w n. list-refused (listingOf (reading dew s)) before after l (list-is s before l after w dew ruled) n;

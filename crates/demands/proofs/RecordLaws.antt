@@ -6,9 +6,9 @@ use mathlib.Core.List.{List, []}
 use Prim.Native.Nat.{ℕ, _-_, _<_}
 use native.Mathlib.Omega.{arith}
 use lib.Dec.{eqb, leb, ltb, lit<}
-use lib.IntN.{ℤ, natAbs, _-ℤ_}
+use lib.IntN.{ℤ, pos, natAbs, _-ℤ_}
 use borrow.Author.Tests.{ltb-false, le-leb, lt-ltb, not-false}
-use Rattle.number.specs.Refusal.{given, answer}
+use Rattle.number.specs.Refusal.{given}
 use Rattle.number.proofs.Sizes.{both}
 use Rattle.quantity.specs.Limits.{lastMinute, threeHours, inside, pressureLimits, wheelhouse, recordedPressure}
 use Rattle.quantity.specs.declared.MetresPerSecond.{MetresPerSecond}
@@ -17,18 +17,19 @@ use Rattle.settings.specs.Settings.{checked}
 use Rattle.settings.specs.declared.Settings.{Settings}
 use Rattle.store.specs.History.{history, remembered, isPresent}
 use Rattle.pressure.proofs.PressureTheorems.{sea-level-recorded}
-use Rattle.vapour.specs.Vapour.{water, IsTable}
+use Rattle.vapour.specs.Vapour.{water, Tables, AreTables}
 use Rattle.vapour.proofs.SaturationLaws.{near-one}
-use Rattle.vapour.proofs.TableExists.{the-table}
+use Rattle.vapour.proofs.TablesExist.{the-tables}
 use Rattle.wind.specs.declared.TrueWind.the-variants.{Blows}
-use Rattle.humidity.specs.Humidity.{vapourPressure, wetAboveDry, tooDry, withinLimits, IsHumidity, IsMoisture}
 use Rattle.humidity.specs.declared.HumidityFigures.{HumidityFigures}
-use Rattle.humidity.specs.declared.Moisture.the-variants as moisture
+use Rattle.humidity.proofs.VapourPressureLaws.{one-e}
+use Rattle.humidity.proofs.HumidityTheorems.{writable-of}
 use Rattle.station.specs.Source.{Source, heard, inCelsius, readingAt}
-use Rattle.station.specs.Questions.{Answers, seaLevelAt, pressureTests, PressureRule, tendencyTests, TendencyRule, windTests, WindRule, humidityTests, HumidityRule, dryAt, wetAt, stationAt}
+use Rattle.station.specs.Questions.{Answers, seaLevelAt, pressureTests, PressureRule, tendencyTests, TendencyRule, windTests, WindRule, humidityTests, HumidityRule, dryAt, wetAt, stateAt, stationAt, vapourAt}
 use Rattle.station.specs.Told.{Change}
 use Rattle.station.proofs.AnswerLaws.{passed, ruled}
-use Rattle.heard.proofs.StoreLaws.{heard-inside, never-foreign}
+use Rattle.station.proofs.HumidityLaws.{entries-there}
+use Rattle.heard.proofs.StoreLaws.{heard-inside}
 use Rattle.watchfile.specs.Rules.{minuteRight, rank}
 use Rattle.watchfile.specs.Format.{DewRule, kept, bodyRight, recordRight}
 use Rattle.watchfile.specs.declared.Body.{Body}
@@ -114,33 +115,33 @@ module _ (g : Settings) (good : checked g ≡ given tt) (M : List (List ℕ)) (m
 
   -- ---- humidity
 
-  -- figures that no test refused are what the psychrometer's work gives
-  worked : (dry wet p a : ℤ) (h : HumidityFigures) → withinLimits dry wet p a ≡ true → wetAboveDry dry wet ≡ false
-      → (is : IsHumidity dry wet p a h) → tooDry (vapourPressure (is .entry) a p dry wet) ≡ false → IsMoisture dry wet p a (moisture.Given h)
-  unfolding answer
-  worked dry wet p a h l b is e =
-      record { entry = is .entry; near = λ t. is .near; figures = h; first = rw (l, b, e); worked = λ t. is }
-
-  pub humidity-record : (h : HumidityFigures) → ((table : ℤ → ℕ) → IsTable table → Answers (humidityTests [] table S m) (HumidityRule S m) (given h))
+  pub humidity-record : (h : HumidityFigures) → ((tables : Tables) → AreTables tables → Answers (humidityTests [] tables S m) (HumidityRule S m) (given h))
       → (dew : ℕ → ℤ) → DewRule dew → recordRight dew 0 (humidityRecord m h) ≡ true
   humidity-record h asked dew ruled-dew =
-      let table = the-table .0 in
-      let tabled = the-table .1 in
+      let tables = the-tables .0 in
+      let tabled = the-tables .1 in
       let Rule = HumidityRule S m in
-      let a = passed _ _ Rule h (asked table tabled) in
+      let s = stateAt S m in
+      let dry = dryAt S m in
+      let wet = wetAt S m in
+      let p = stationAt S m in
+      let k = S .psychrometer in
+      let a = passed _ _ Rule h (asked tables tabled) in
       let b = passed _ _ Rule h (a .1) in
       let c = passed _ _ Rule h (b .1) in
       let d = passed _ _ Rule h (c .1) in
       let e = passed _ _ Rule h (d .1) in
-      let f = passed _ _ Rule h (e .1) in
-      let i = passed _ _ Rule h (f .1) in
-      let is = ruled Rule h (i .1) in
+      let bulbs = passed _ _ Rule h (e .1) in
+      let cold = passed _ _ Rule h (bulbs .1) in
+      let doubt = passed _ _ Rule h (cold .1) in
+      let under = passed _ _ Rule h (doubt .1) in
+      let enough = passed _ _ Rule h (under .1) in
+      let is = ruled Rule h (enough .1) in
       let in-dry = heard-inside g good M m 4 (lit< tt) (not-false _ (c .0)) in
       let in-wet = heard-inside g good M m 5 (lit< tt) (not-false _ (d .0)) in
-      let others = not-false _ (never-foreign g good M m (not-false _ (b .0))) in
-      let entry = near-one water (wetAt S m) (is .entry) (table (wetAt S m)) (is .near) (tabled (wetAt S m) in-wet) in
-      let enough : tooDry (vapourPressure (is .entry) (S .psychrometer) (stationAt S m) (dryAt S m) (wetAt S m)) ≡ false =
-      ap (λ (n : ℕ). tooDry (vapourPressure n (S .psychrometer) (stationAt S m) (dryAt S m) (wetAt S m))) entry ∙ i .0 in
+      let there = entries-there s dry wet p k tables tabled in-dry in-wet s (cold .0) in
+      let same : vapourAt tables S m ≡ pos (h .e .0) = one-e k p dry wet (tables .overWater wet) (tables .overIce wet) (is .w) (is .i) s there (is .entries) ∙ sym (is .e) in
+      let saturation = near-one water dry (tables .overWater dry) (h .saturation .0) (tabled .of-water dry in-dry) (is .saturation) in
       both (minute-right m 4 (a .0) (lit< tt) refl)
-      (humidity-taken dew ruled-dew (dryAt S m) (wetAt S m) (stationAt S m) (S .psychrometer) h
-      (worked (dryAt S m) (wetAt S m) (stationAt S m) (S .psychrometer) h (both (both in-dry in-wet) others) (f .0) is enough))
+      (humidity-taken dew ruled-dew h
+      (writable-of s dry wet p k h is in-dry (rw (saturation, same) at (under .0)) (rw same at (enough .0))))

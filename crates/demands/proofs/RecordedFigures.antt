@@ -25,10 +25,8 @@ use Rattle.wind.proofs.WindTheorems.{speed-inside, calm, calm-only, direction-i
 use Rattle.vapour.specs.Vapour.{lowestVapour, recordedVapour, relativeHumidity, vapourDeficit}
 use Rattle.vapour.proofs.RangeLaws.{in-range}
 use Rattle.vapour.proofs.DewLaws.{dew-one}
-use Rattle.humidity.specs.Humidity.{IsMoisture}
 use Rattle.humidity.specs.declared.HumidityFigures.{HumidityFigures}
-use Rattle.humidity.specs.declared.Moisture.the-variants.{Given}
-use Rattle.humidity.proofs.HumidityTheorems.{writable}
+use Rattle.humidity.proofs.HumidityTheorems.{Writable}
 use Rattle.watchfile.specs.Rules.{pressureRight, changeRight, absentRight, speedRight, directionRight, eRight, saturationRight, deficitRight, relativeRight, dewRight}
 use Rattle.watchfile.specs.Format.{DewRule, kept, bodyRight}
 use Rattle.watchfile.specs.declared.Body.the-variants.{Pressure, Tendency, Wind, Humidity}
@@ -77,11 +75,10 @@ itself (pos n) = both (le-leb n n (omega arith)) (le-leb n n (omega arith))
 itself (negsuc n) = both (le-leb n n (omega arith)) (le-leb n n (omega arith))
 
 -- Humidity.
-pub humidity-taken : (rule : ℕ → ℤ) → DewRule rule → (dry wet p a : ℤ) (h : HumidityFigures) → IsMoisture dry wet p a (Given h)
+pub humidity-taken : (rule : ℕ → ℤ) → DewRule rule → (h : HumidityFigures) → Writable h
     → bodyRight rule (Humidity (h .e .0) (h .saturation .0) (h .deficit .0) (h .relative) (h .dew .0)) ≡ true
 unfolding eRight saturationRight deficitRight relativeRight dewRight
-humidity-taken rule ruled dry wet p a h m =
-    let w = writable dry wet p a h m in
+humidity-taken rule ruled h w =
     let e = h .e .0 in
     let s = h .saturation .0 in
     let f = w .follow in

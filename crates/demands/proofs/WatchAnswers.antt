@@ -9,7 +9,7 @@ use lib.IntN.{ℤ, pos, negℤ}
 use lib.ListN.{replicate}
 use Rattle.number.specs.Round.{nearest, rounded}
 use Rattle.number.specs.Refusal.{given, answer}
-use Rattle.quantity.specs.Limits.{inside, bulb}
+use Rattle.quantity.specs.Limits.{inside, bulb, frost}
 use Rattle.quantity.specs.declared.BarometerUnit.the-variants as unit
 use Rattle.message.specs.Value.{toWhole}
 use Rattle.message.specs.Receive.{received}
@@ -26,7 +26,7 @@ use Rattle.pressure.specs.Pressure.{scaleFrom, scale, outside, temperature, hei
 use Rattle.wind.specs.Wind.{sum, N, M, meets, count, between, turned, compass, from}
 use Rattle.wind.specs.Answer.{withinLimits}
 use Rattle.wind.proofs.WindTest.{isNearest, isWind, tested}
-use Rattle.vapour.specs.Vapour.{water, IsTable}
+use Rattle.vapour.specs.Vapour.{water, ice, Tables, AreTables}
 use Rattle.vapour.proofs.SaturationLaws.{near-test, near-by-test, near-one}
 use Rattle.vapour.proofs.DewLaws.{dew-test, dew-by-test}
 use Rattle.humidity.specs.Humidity.{vapourPressure}
@@ -63,9 +63,12 @@ ship =
       points = point 8500 ∷ replicate 15 (point 11000);
     }
 
--- The message of a channel at a minute with the patterns of two values.
+-- The message of a channel with a state at a minute with the patterns of two values, and that of state 0.
+abbrev stated : ℕ → ℕ → ℕ → ℕ → ℕ → List ℕ
+stated channel state minute first second = channel ∷ state ∷ 0 ∷ 0 ∷ bytes32 minute ++ bytes32 first ++ bytes32 second
+
 abbrev sent : ℕ → ℕ → ℕ → ℕ → List ℕ
-sent channel minute first second = channel ∷ 0 ∷ 0 ∷ 0 ∷ bytes32 minute ++ bytes32 first ++ bytes32 second
+sent channel minute first second = stated channel 0 minute first second
 
 -- All but the barometer, at 100 and 280, newest first. Wheelhouse 12.5 °C; 2.5 m/s at 40° and course 260 at 12.5 kn, then 0 at 0° and
 -- course 30 at 10.0 kn; bulbs 20.0 and 15.0 °C, then both 0.0 °C.
@@ -126,7 +129,7 @@ pub pressures :
     × Tells asked.pressure (heard ship quiet) 280 (pressed (pos 10010))
     × Tells asked.pressure (heard ship (at-100 ∷ others)) 280 (missing 0 280)
 unfolding Answers answer history received toWhole nearest rounded ofBits remembered every scaleFrom scale outside temperature height seaLevel tenthsIn
-pressures = (λ table tabled. (refl, refl), λ table tabled. (refl, refl), λ table tabled. refl)
+pressures = (λ tables tabled. (refl, refl), λ tables tabled. (refl, refl), λ tables tabled. refl)
 
 -- ---- tendency
 
@@ -139,9 +142,9 @@ pub tendencies :
     × Tells asked.tendency (heard ship falling) 280 (changed (negℤ (pos 10)) 179)
 unfolding Answers answer history received toWhole nearest rounded ofBits remembered absents every scaleFrom scale outside temperature height seaLevel tenthsIn
 tendencies = (
-  λ table tabled. (refl, record { change = refl; absent = refl }),
-  λ table tabled. (refl, record { change = refl; absent = refl }),
-  λ table tabled. (refl, record { change = refl; absent = refl }),
+  λ tables tabled. (refl, record { change = refl; absent = refl }),
+  λ tables tabled. (refl, record { change = refl; absent = refl }),
+  λ tables tabled. (refl, record { change = refl; absent = refl }),
 )
 
 -- ---- wind
@@ -151,11 +154,11 @@ blown v d = wind.Given (record { 0 = v }) (record { 0 = d })
 
 pub winds : Tells asked.wind (heard ship others) 100 (blown 48 60) × Tells asked.wind (heard ship others) 280 (blown 51 210)
 unfolding Answers answer history received toWhole nearest ofBits remembered sines fold size sine cosine sum N M meets count between turned compass from withinLimits isNearest isWind
-winds = (λ table tabled. (refl, tested 260 125 25 40 48 60 refl), λ table tabled. (refl, tested 30 100 0 0 51 210 refl))
+winds = (λ tables tabled. (refl, tested 260 125 25 40 48 60 refl), λ tables tabled. (refl, tested 30 100 0 0 51 210 refl))
 
 -- ---- humidity
 
-abbrev pub moist : ℕ → ℕ → ℕ → ℕ → ℕ → HumidityAnswer
+abbrev pub moist : ℕ → ℕ → ℕ → ℕ → ℤ → HumidityAnswer
 moist e saturation deficit relative dew =
     humidity.Given
     (record {
@@ -163,35 +166,73 @@ moist e saturation deficit relative dew =
       saturation = record { 0 = saturation };
       deficit = record { 0 = deficit };
       relative = relative;
-      dew = record { 0 = record { v = pos dew } };
+      dew = record { 0 = record { v = dew } };
     })
 
--- any table's entry of a wet bulb
-entry-is : (table : ℤ → ℕ) → IsTable table → (t : ℤ) (n : ℕ) → inside bulb t ≡ true → T (near-test water t n) → table t ≡ n
-entry-is table tabled t n i passed = near-one water t (table t) n (tabled t i) (near-by-test water t n passed)
+-- any tables' entries of a bulb
+over-water : (tables : Tables) → AreTables tables → (t : ℤ) (n : ℕ) → inside bulb t ≡ true → T (near-test water t n) → tables .overWater t ≡ n
+over-water tables tabled t n i passed = near-one water t (tables .overWater t) n (tabled .of-water t i) (near-by-test water t n passed)
+
+over-ice : (tables : Tables) → AreTables tables → (t : ℤ) (n : ℕ) → inside frost t ≡ true → T (near-test ice t n) → tables .overIce t ≡ n
+over-ice tables tabled t n i passed = near-one ice t (tables .overIce t) n (tabled .of-ice t i) (near-by-test ice t n passed)
 
 pub humidities :
-    Tells asked.humidity (heard ship quiet) 100 (moist 1366 2335 969 59 116) × Tells asked.humidity (heard ship quiet) 280 (moist 611 611 0 100 0)
+    Tells asked.humidity (heard ship quiet) 100 (moist 1366 2335 969 59 (pos 116)) × Tells asked.humidity (heard ship quiet) 280 (moist 611 611 0 100 (pos 0))
 unfolding Answers answer history received toWhole nearest rounded ofBits remembered every scaleFrom scale outside stationPressure tenthsIn vapourPressure near-test dew-test
 humidities = (
-  λ table tabled. (
-    rw (entry-is table tabled (pos 150) 1703 refl tt),
+  λ tables tabled. (
+    rw (over-water tables tabled (pos 150) 1703 refl tt, over-water tables tabled (pos 200) 2335 refl tt),
     record {
-      entry = 1703;
-      near = near-by-test water (pos 150) 1703 tt;
+      w = 1703;
+      i = 0;
+      entries = near-by-test water (pos 150) 1703 tt;
       saturation = near-by-test water (pos 200) 2335 tt;
       e = refl;
       follow = record { deficit = refl; relative = refl; dew = dew-by-test 1366 (pos 116) tt };
     },
   ),
-  λ table tabled. (
-    rw (entry-is table tabled (pos 0) 611 refl tt),
+  λ tables tabled. (
+    rw (over-water tables tabled (pos 0) 611 refl tt),
     record {
-      entry = 611;
-      near = near-by-test water (pos 0) 611 tt;
+      w = 611;
+      i = 0;
+      entries = near-by-test water (pos 0) 611 tt;
       saturation = near-by-test water (pos 0) 611 tt;
       e = refl;
       follow = record { deficit = refl; relative = refl; dew = dew-by-test 611 (pos 0) tt };
+    },
+  ),
+)
+
+-- Both bulbs at -10.0 °C at 300, with water or with ice on the wick: two messages that differ in the state alone, and two answers.
+abbrev pub frosty : ℕ → List (List ℕ)
+frosty state = stated 5 state 300 0xc120_0000 0 ∷ sent 4 300 0xc120_0000 0 ∷ sent 0 300 0x447a_0000 0 ∷ quiet
+
+pub state-decides :
+    Tells asked.humidity (heard ship (frosty 0)) 300 (moist 287 287 0 100 (negℤ (pos 100)))
+    × Tells asked.humidity (heard ship (frosty 1)) 300 (moist 260 287 27 91 (negℤ (pos 112)))
+unfolding Answers answer history received toWhole nearest rounded ofBits remembered every scaleFrom scale outside stationPressure tenthsIn vapourPressure near-test dew-test
+state-decides = (
+  λ tables tabled. (
+    rw (over-water tables tabled (negℤ (pos 100)) 287 refl tt),
+    record {
+      w = 287;
+      i = 0;
+      entries = near-by-test water (negℤ (pos 100)) 287 tt;
+      saturation = near-by-test water (negℤ (pos 100)) 287 tt;
+      e = refl;
+      follow = record { deficit = refl; relative = refl; dew = dew-by-test 287 (negℤ (pos 100)) tt };
+    },
+  ),
+  λ tables tabled. (
+    rw (over-water tables tabled (negℤ (pos 100)) 287 refl tt, over-ice tables tabled (negℤ (pos 100)) 260 refl tt),
+    record {
+      w = 287;
+      i = 260;
+      entries = near-by-test ice (negℤ (pos 100)) 260 tt;
+      saturation = near-by-test water (negℤ (pos 100)) 287 tt;
+      e = refl;
+      follow = record { deficit = refl; relative = refl; dew = dew-by-test 260 (negℤ (pos 112)) tt };
     },
   ),
 )

@@ -18,7 +18,7 @@ use Rattle.store.specs.Block.{heardAs}
 use Rattle.store.specs.History.{nextOf, history}
 use Rattle.store.specs.declared.Hearing.{Hearing}
 use Rattle.wind.specs.declared.TrueWind.the-variants.{Blows, OutsideLimits}
-use Rattle.vapour.specs.Vapour.{IsTable}
+use Rattle.vapour.specs.Vapour.{Tables, AreTables}
 use Rattle.station.specs.Source.{heard}
 use Rattle.station.specs.Questions.{Asked, pressure, tendency, wind, humidity, question, Reply, reads, Tells}
 use Rattle.heard.specs.Feeds.{SameSettings, fedTo, Replaced, messageTests}
@@ -49,7 +49,7 @@ pub record Demand1 : Type 0 where
   pub message : (g : Settings) (M : List (List ℕ)) (b : List ℕ) → Working g M b → (m : List ℕ) (h : Hearing) (b′ : List ℕ) → Hears b m h b′
       → (n : Numbered) → (heardAs h ≡ refused n) ↔ First (messageTests g M m) n
   pub asked : (q : Asked) (g : Settings) (M : List (List ℕ)) (m : ℕ) (x : Reply q) → Replies q g M m x
-      → (table : ℤ → ℕ) → IsTable table → (n : Numbered) → (question q .told x ≡ refused n) ↔ First (question q .tests [] table (heard g M) m) n
+      → (tables : Tables) → AreTables tables → (n : Numbered) → (question q .told x ≡ refused n) ↔ First (question q .tests [] tables (heard g M) m) n
   pub write : (dew : ℕ → ℤ) → DewRule dew → (all : List Record) (count : ℕ) (before after : List ℕ) (w : Written) → WritesFile all count before w after
       → (n : Numbered) → (writtenAs w ≡ refused n) ↔ First (writeTests dew all count (length before)) n
   pub file : (dew : ℕ → ℤ) → DewRule dew → (s : List ℕ) (x : FileRead) → ReadsFile s x

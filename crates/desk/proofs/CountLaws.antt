@@ -12,7 +12,7 @@ use lib.Seq.{drop-drop, take-at, drop-at, take-all, lt-length-set, getD-set-same
 use borrow.Author.Tests.{eqb-true, eqb-false}
 use Rattle.number.specs.Refusal.{Numbered, Answer, refused, given, numberedIn}
 use Rattle.wire.specs.declared.MessageRefusal.{MessageRefusal}
-use Rattle.wire.specs.declared.MessageRefusal.the-variants.{NotSixteenBytes, NoSuchChannel, ByteNotZero, WetBulbNotWater, MinuteTooLate, NotFinite, OutsideLimits}
+use Rattle.wire.specs.declared.MessageRefusal.the-variants.{NotSixteenBytes, NoSuchChannel, ByteNotZero, NoSuchState, MinuteTooLate, NotFinite, OutsideLimits}
 use Rattle.message.specs.Receive.{Entry}
 use Rattle.settings.specs.declared.Settings.{Settings}
 use Rattle.store.specs.Block.{hearing, heardBy, heardAs, outcome, Hears}
@@ -81,7 +81,7 @@ number-small (Refused r) = go r
     go NotSixteenBytes = lit< tt
     go NoSuchChannel = lit< tt
     go ByteNotZero = lit< tt
-    go WetBulbNotWater = lit< tt
+    go NoSuchState = lit< tt
     go MinuteTooLate = lit< tt
     go NotFinite = lit< tt
     go OutsideLimits = lit< tt

@@ -75,7 +75,7 @@ fn pressure_in(x: Recalled) -> u64
             Reading::ApparentWind(_, _) => 0,
             Reading::ShipMotion(_, _) => 0,
             Reading::DryBulb(_) => 0,
-            Reading::WetBulb(_) => 0,
+            Reading::WetBulb(_, _) => 0,
         },
     }
 }
@@ -96,7 +96,7 @@ fn temperature_in(x: Recalled) -> u64
             Reading::ApparentWind(_, _) => 0,
             Reading::ShipMotion(_, _) => 0,
             Reading::DryBulb(_) => 0,
-            Reading::WetBulb(_) => 0,
+            Reading::WetBulb(_, _) => 0,
         },
     }
 }

@@ -11,7 +11,7 @@ use Rattle.block.specs.Layout.{NO_STORE}
 use Rattle.block.specs.Words.{isStore, listed}
 use Rattle.store.specs.Block.{hearing}
 use Rattle.store.proofs.HearingLaws.{hears-nothing}
-use Rattle.vapour.proofs.TableExists.{the-table}
+use Rattle.vapour.proofs.TablesExist.{the-tables}
 use Rattle.station.specs.Questions.{Asked, question, Reply, TellsOf}
 use Rattle.heard.specs.Feeds.{zeros}
 use Rattle.heard.proofs.RefusalsInOrder.{question-refused}
@@ -19,8 +19,8 @@ use Rattle.heard.proofs.RefusalsInOrder.{question-refused}
 module _ (s : List ℕ) (none : isStore s ≡ false) where
   pub no-store-asked : (q : Asked) (m : ℕ) (r : Reply q) → TellsOf q s m r → question q .told r ≡ refused (numbered NO_STORE [])
   no-store-asked q m r w =
-      let table = the-table in
-      question-refused _ _ (question q .told r) (w (table .0) (table .1)) (numbered NO_STORE []) .1
+      let tables = the-tables in
+      question-refused _ _ (question q .told r) (w (tables .0) (tables .1)) (numbered NO_STORE []) .1
       (0, (subst (λ (b : Bool). T (not b)) (sym none) tt, refl), λ p n l h. absurd (omega arith))
 
   pub no-store-heard : (m : List ℕ) → hearing s m ≡ refused (numbered NO_STORE [])

@@ -56,7 +56,7 @@ entry-low u t (Wheelhouse x) = lit< tt
 entry-low u t (ApparentWind x) = lit< tt
 entry-low u t (ShipMotion x) = lit< tt
 entry-low u t (DryBulb x) = lit< tt
-entry-low u t (WetBulb x) = lit< tt
+entry-low u t (WetBulb s x) = lit< tt
 
 entry-minute : (u : BarometerUnit) (t : ℕ) (m : Message) → entry u t m .minute ≡ t
 entry-minute u t (Barometer x) = refl
@@ -64,7 +64,7 @@ entry-minute u t (Wheelhouse x) = refl
 entry-minute u t (ApparentWind x) = refl
 entry-minute u t (ShipMotion x) = refl
 entry-minute u t (DryBulb x) = refl
-entry-minute u t (WetBulb x) = refl
+entry-minute u t (WetBulb s x) = refl
 
 module _ (g : Settings) (good : checked g ≡ given tt) (M : List (List ℕ)) (m : List ℕ) where
   -- The store tests a message by what was heard before.

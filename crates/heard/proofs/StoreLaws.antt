@@ -156,26 +156,26 @@ module _ (g : Settings) (good : checked g ≡ given tt) where
       -- it is a store, so the first test does not refuse
       of-store : (q : Asked) (r : Reply q) → TellsOf q (store-of g M) m r
           → AnsweredBy q [] (foreignTo q (held (store-of g M)) m) (held (store-of g M)) m r
-      of-store q r w table tabled =
+      of-store q r w tables tabled =
           let Rule = question q .Rule (held (store-of g M)) m in
           carry (noStore (store-of g M) ∷ _) _ Rule Rule (question q .told r)
           (leave-out [] _ (noStore (store-of g M)) (λ e. ap not (store-is-open g good M)))
           (λ x h. h)
-          (w table tabled)
+          (w tables tabled)
 
       -- the test that document 01 does not have among its own never refuses
       without-foreign : (r : HumidityAnswer) → AnsweredBy asked.humidity [] (foreign (held (store-of g M)) m) (held (store-of g M)) m r
           → Tells asked.humidity (held (store-of g M)) m r
-      without-foreign r w table tabled =
+      without-foreign r w tables tabled =
           let S = held (store-of g M) in
           let same : not (inside recordedPressure (stationAt S m) && inside settings.psychrometer (S .psychrometer))
           ≡ not (inside recordedPressure (stationAt (heard g M) m) && inside settings.psychrometer (g .psychrometer .0 .v)) =
           rw (station-same S (heard g M) barometer-is m (kept-is m 0 (lit< tt)), psychrometer-is) in
-          carry (humidityTests (foreign S m) table S m) (humidityTests [] table S m) (HumidityRule S m) (HumidityRule S m) (humidityAs r)
+          carry (humidityTests (foreign S m) tables S m) (humidityTests [] tables S m) (HumidityRule S m) (HumidityRule S m) (humidityAs r)
           (leave-out (tooLate m ∷ missingAt S m 0 ∷ missingAt S m 4 ∷ missingAt S m 5 ∷ outsideAt S m ∷ []) _ _
           (λ e. same ∙ never-foreign m (ap isPresent (sym (kept-is m 0 (lit< tt))) ∙ not-false _ (lets-pass (missingAt S m 0) _ (lets-pass (tooLate m) _ e .1) .0))))
           (λ h x. x)
-          (w table tabled)
+          (w tables tabled)
 
       as-told : (q : Asked) (r : Reply q) → AnsweredBy q [] (foreignTo q (held (store-of g M)) m) (held (store-of g M)) m r
           → Tells q (held (store-of g M)) m r

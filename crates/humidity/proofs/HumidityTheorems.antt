@@ -1,21 +1,25 @@
--- What holds of every answer: e never exceeds saturation, relative humidity is at most 100, and a watch file takes the figures. By
--- the order of e and the entries, once no test has refused. Assumes nothing.
+-- What holds of every answer: e never exceeds saturation, relative humidity is at most 100, and a watch file takes the figures, by
+-- tests 22 and 15; and with water on the wick 20, 21 and 22 never refuse. Assumes nothing.
 use mathlib.Core.Path.{_≡_, refl, sym, ap, subst, _∙_}
-use mathlib.Core.Bool.{Bool, true, false, not, cond}
+use mathlib.Core.Bool.{Bool, true, false, not}
+use mathlib.Core.List.{List}
 use Prim.Native.Nat.{ℕ, _≤_}
 use native.Mathlib.Omega.{arith}
-use lib.IntN.{ℤ, pos, natAbs}
-use lib.Signed.{leZ}
-use borrow.Author.Tests.{not-false}
-use Rattle.number.specs.Refusal.{Answer, refused, given, answer}
-use Rattle.number.proofs.Sizes.{impossible}
+use lib.IntN.{ℤ, pos}
+use borrow.Author.Tests.{leb-true, not-false}
+use Rattle.number.specs.Refusal.{Test, given, answer, HoldsAt}
+use Rattle.number.proofs.RefusalLaws.{given-then, given-is}
+use Rattle.number.proofs.Sizes.{fails}
+use Rattle.quantity.specs.Limits.{inside, bulb}
+use Rattle.quantity.specs.declared.BulbState.{BulbState}
 use Rattle.vapour.specs.Vapour.{lowestVapour, highestVapour, water}
 use Rattle.vapour.proofs.SaturationLaws.{near-one}
+use Rattle.vapour.proofs.TableLaws.{entry-range}
 use Rattle.vapour.proofs.RangeLaws.{relative-most}
-use Rattle.humidity.specs.Humidity.{vapourPressure, withinLimits, wetAboveDry, tooDry, tests, Follow, IsHumidity, IsMoisture}
+use Rattle.humidity.specs.Humidity.{vapourPressure, wetAboveDry, tooWarmForIce, unknownOutside, aboveSaturation, tooDry, withinLimits, tests, Follow, IsHumidity, IsMoisture}
 use Rattle.humidity.specs.declared.HumidityFigures.{HumidityFigures}
 use Rattle.humidity.specs.declared.Moisture.the-variants.{Given}
-use Rattle.humidity.proofs.VapourPressureLaws.{within, in-order}
+use Rattle.humidity.proofs.VapourPressureLaws.{within, one-e}
 
 -- "e 19 to saturation, saturation 19 to 12345, the other three as their rules give"; and relative humidity is at most 100
 pub record Writable (h : HumidityFigures) : Type 0 where
@@ -27,52 +31,78 @@ pub record Writable (h : HumidityFigures) : Type 0 where
   pub follow : Follow h
 
 -- no test has refused
-pub record Passed (dry wet p a e : ℤ) (f h : HumidityFigures) : Type 0 where
+pub record Passed (s : BulbState) (dry wet p a : ℤ) (d : ℕ) (e : ℤ) (f h : HumidityFigures) : Type 0 where
   pub limits : withinLimits dry wet p a ≡ true
-  pub bulbs : leZ wet dry ≡ true
-  pub enough : leZ (pos lowestVapour) e ≡ true
+  pub bulbs : wetAboveDry s dry wet ≡ false
+  pub cold : tooWarmForIce s wet ≡ false
+  pub doubt : unknownOutside s dry ≡ false
+  pub under : aboveSaturation d e ≡ false
+  pub enough : tooDry e ≡ false
   pub same : f ≡ h
 
-pub passed : (dry wet p a e : ℤ) (f h : HumidityFigures) → answer (tests dry wet p a e) f ≡ given h → Passed dry wet p a e f h
-unfolding answer
-passed dry wet p a e f h x = go (not (withinLimits dry wet p a)) (wetAboveDry dry wet) (tooDry e) refl refl refl x
-  where
-    go : (i j k : Bool) → not (withinLimits dry wet p a) ≡ i → wetAboveDry dry wet ≡ j → tooDry e ≡ k →
-        _≡_ {A = Answer ℕ HumidityFigures} (cond i (refused 7) (cond j (refused 13) (cond k (refused 15) (given f)))) (given h) → Passed dry wet p a e f h
-    go true j k q r s y = impossible (cc)
-    go false true k q r s y = impossible (cc)
-    go false false true q r s y = impossible (cc)
-    go false false false q r s y = record { limits = not-false _ q; bulbs = not-false _ r; enough = not-false _ s; same = cc }
+module _ (s : BulbState) (dry wet p a : ℤ) where
+  pub passed : (d : ℕ) (e : ℤ) (f h : HumidityFigures) → answer (tests s dry wet p a d e) f ≡ given h → Passed s dry wet p a d e f h
+  passed d e f h x =
+      record {
+        limits = not-false _ (fails _ (λ t. none 0 7 (t, refl)));
+        bulbs = fails _ (λ t. none 1 13 (t, refl));
+        cold = fails _ (λ t. none 2 20 (t, refl));
+        doubt = fails _ (λ t. none 3 21 (t, refl));
+        under = fails _ (λ t. none 4 22 (t, refl));
+        enough = fails _ (λ t. none 5 15 (t, refl));
+        same = same;
+      }
+    where
+      ts : List (Test ℕ)
+      ts = tests s dry wet p a d e
 
--- what an answer with figures says: they are the bulbs' figures, and no test has refused them
-pub record Figured (dry wet p a : ℤ) (h : HumidityFigures) : Type 0 where
-  pub is : IsHumidity dry wet p a h
-  pub limits : withinLimits dry wet p a ≡ true
-  pub bulbs : leZ wet dry ≡ true
-  pub enough : leZ (pos lowestVapour) (pos (h .e .0)) ≡ true
+      same : f ≡ h
+      same = given-is (tests s dry wet p a d e) f h x
 
-pub figured-then : (dry wet p a : ℤ) (h : HumidityFigures) → IsMoisture dry wet p a (Given h) → Figured dry wet p a h
-figured-then dry wet p a h m =
-    let t = passed dry wet p a (vapourPressure (m .entry) a p dry wet) (m .figures) h (sym (m .first)) in
-    let is = subst (IsHumidity dry wet p a) (t .same) (m .worked (ap Given (sym (t .same)))) in
-    let w = near-one water wet (m .entry) (is .entry) (m .near (t .limits)) (is .near) in
-    let e : vapourPressure (m .entry) a p dry wet ≡ pos (h .e .0) = ap (λ (n : ℕ). vapourPressure n a p dry wet) w ∙ sym (is .e) in
-    record { is = is; limits = t .limits; bulbs = t .bulbs; enough = sym (ap (leZ (pos lowestVapour)) e) ∙ t .enough }
+      none : (place n : ℕ) → HoldsAt (tests s dry wet p a d e) place n → ⊥
+      none place n k = given-then f (tests s dry wet p a d e) (x ∙ ap given (sym same)) n (place, k)
 
--- The answer can always be written.
-pub writable : (dry wet p a : ℤ) (h : HumidityFigures) → IsMoisture dry wet p a (Given h) → Writable h
-writable dry wet p a h m =
-    let f = figured-then dry wet p a h m in
-    let is = f .is in
-    let e : natAbs (vapourPressure (is .entry) a p dry wet) ≡ h .e .0 = ap natAbs (sym (is .e)) in
-    let o = in-order dry wet p a (is .entry) (h .saturation .0) (within dry wet p a (f .limits)) (f .bulbs) (is .near) (is .saturation) (ap (leZ (pos lowestVapour)) (sym (is .e)) ∙ f .enough) in
-    let l : lowestVapour ≤ h .e .0 = omega (arith, o .least) in
-    let s : h .e .0 ≤ h .saturation .0 = omega (arith, o .e-wet, o .wet-dry) in
-    record {
-      least-e = l;
-      e-saturation = s;
-      least-saturation = omega arith;
-      most-saturation = o .most;
-      most-relative = subst (λ (n : ℕ). n ≤ 100) (sym (is .follow .relative)) (relative-most (h .e .0) (h .saturation .0) (omega arith) s);
-      follow = is .follow;
-    }
+  -- figures of a dry bulb in the table that neither 22 nor 15 refuses
+  pub writable-of : (h : HumidityFigures) → IsHumidity s dry wet p a h → inside bulb dry ≡ true
+      → aboveSaturation (h .saturation .0) (pos (h .e .0)) ≡ false → tooDry (pos (h .e .0)) ≡ false → Writable h
+  writable-of h is in-dry under enough =
+      let l : lowestVapour ≤ h .e .0 = leb-true lowestVapour (h .e .0) (not-false _ enough) in
+      let u : h .e .0 ≤ h .saturation .0 = leb-true (h .e .0) (h .saturation .0) (not-false _ under) in
+      record {
+        least-e = l;
+        e-saturation = u;
+        least-saturation = omega arith;
+        most-saturation = entry-range dry (h .saturation .0) in-dry (is .saturation) .1;
+        most-relative = subst (λ (n : ℕ). n ≤ 100) (sym (is .follow .relative)) (relative-most (h .e .0) (h .saturation .0) (omega arith) u);
+        follow = is .follow;
+      }
+
+  module _ (h : HumidityFigures) (m : IsMoisture s dry wet p a (Given h)) where
+    through : Passed s dry wet p a (m .d) (vapourPressure s (m .w) (m .i) a p dry wet) (m .figures) h
+    through = passed (m .d) (vapourPressure s (m .w) (m .i) a p dry wet) (m .figures) h (sym (m .first))
+
+    -- An answer with figures gives those of the bulbs.
+    pub figured-then : IsHumidity s dry wet p a h
+    figured-then = subst (IsHumidity s dry wet p a) (through .same) (m .worked (ap Given (sym (through .same))))
+
+    -- and no test has refused them
+    pub passed-with : Passed s dry wet p a (h .saturation .0) (pos (h .e .0)) h h
+    passed-with =
+        let t = through in
+        let is = figured-then in
+        let e : vapourPressure s (m .w) (m .i) a p dry wet ≡ pos (h .e .0) =
+        one-e a p dry wet (m .w) (m .i) (is .w) (is .i) s (m .entries (t .limits) (t .cold)) (is .entries) ∙ sym (is .e) in
+        let d : m .d ≡ h .saturation .0 = near-one water dry (m .d) (h .saturation .0) (m .near (t .limits)) (is .saturation) in
+        record {
+          limits = t .limits;
+          bulbs = t .bulbs;
+          cold = t .cold;
+          doubt = t .doubt;
+          under = rw (d, e) at (t .under);
+          enough = rw e at (t .enough);
+          same = refl;
+        }
+
+    -- The answer can always be written.
+    pub writable : Writable h
+    writable = let t = passed-with in writable-of h figured-then (within dry wet p a (t .limits) .in-dry) (t .under) (t .enough)

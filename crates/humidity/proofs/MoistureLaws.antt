@@ -1,22 +1,20 @@
 -- What each way through the tests comes to: the list of tests, answered by what is known on that way. Assumes nothing.
-use mathlib.Core.Path.{_≡_, sym, ap, _∙_}
-use mathlib.Core.Bool.{Bool, true, false, _&&_}
+use mathlib.Core.Path.{_≡_, sym, ap, subst, _∙_}
+use mathlib.Core.Bool.{Bool, true, false}
 use Prim.Native.Nat.{ℕ}
-use lib.IntN.{ℤ, pos, natAbs}
-use lib.Signed.{leZ}
+use lib.IntN.{ℤ, pos}
 use Rattle.number.specs.Refusal.{answer}
 use Rattle.number.proofs.Sizes.{impossible}
-use Rattle.quantity.specs.Limits.{inside, recordedPressure}
-use Rattle.settings.specs.Settings.{psychrometer}
-use Rattle.vapour.specs.Vapour.{lowestVapour}
-use Rattle.humidity.specs.Humidity.{vapourPressure, withinLimits, IsMoisture}
-use Rattle.humidity.specs.Parts.{Tabled, Ready, FiguresOf}
+use Rattle.quantity.specs.declared.BulbState.{BulbState}
+use Rattle.vapour.specs.Vapour.{Near, water}
+use Rattle.humidity.specs.Humidity.{vapourPressure, EntriesFor, wetAboveDry, tooWarmForIce, unknownOutside, byVapour, withinLimits, moistureAs, IsMoisture}
+use Rattle.humidity.specs.Parts.{IsByVapour}
 use Rattle.humidity.specs.declared.HumidityFigures.{HumidityFigures}
-use Rattle.humidity.specs.declared.Moisture.the-variants.{Given, WetAboveDry, TooDry, OutsideLimits}
-use Rattle.humidity.proofs.VapourPressureLaws.{Order, within, in-order, whole-e}
+use Rattle.humidity.specs.declared.Moisture.{Moisture}
+use Rattle.humidity.specs.declared.Moisture.the-variants.{WetAboveDry, TooWarmForIce, UnknownOutsideRange, OutsideLimits}
 
 -- figures that nothing refers to, where there are none
-none : HumidityFigures
+pub none : HumidityFigures
 none =
     record {
       e = record { 0 = 0 };
@@ -29,65 +27,88 @@ none =
 untrue : true ≡ false → ⊥
 untrue e = impossible (cc)
 
-module _ (dry wet p a : ℤ) where
-  pub outside : withinLimits dry wet p a ≡ false → IsMoisture dry wet p a OutsideLimits
+module _ (s : BulbState) (dry wet p a : ℤ) where
+  -- 7
+  pub outside : withinLimits dry wet p a ≡ false → IsMoisture s dry wet p a OutsideLimits
   unfolding answer
   outside l =
       record {
-        entry = 0;
+        d = 0;
+        w = 0;
+        i = 0;
         near = λ h. absurd (untrue (sym h ∙ l));
+        entries = λ h k. absurd (untrue (sym h ∙ l));
         figures = none;
         first = rw l;
         worked = λ e. impossible (cc);
       }
 
-  module _ (d w : ℕ) (tabled : Tabled dry wet d w) where
-    -- the limits of the bulbs are met: those of the others decide
-    pub others : {b t : Bool} → b ≡ (inside recordedPressure p && inside psychrometer a) → b ≡ t → withinLimits dry wet p a ≡ t
-    others h e = rw (tabled .within) (sym h ∙ e)
-
-    pub above : withinLimits dry wet p a ≡ true → leZ wet dry ≡ false → IsMoisture dry wet p a WetAboveDry
+  module _ (d : ℕ) (limits : withinLimits dry wet p a ≡ true) (near : Near water dry d) where
+    -- 20
+    pub too-warm : wetAboveDry s dry wet ≡ false → tooWarmForIce s wet ≡ true → IsMoisture s dry wet p a TooWarmForIce
     unfolding answer
-    above l x =
+    too-warm x y =
         record {
-          entry = w;
-          near = λ h. tabled .near-wet;
+          d = d;
+          w = 0;
+          i = 0;
+          near = λ h. near;
+          entries = λ h k. absurd (untrue (sym y ∙ k));
           figures = none;
-          first = rw (l, x);
+          first = rw (limits, x, y);
           worked = λ e. impossible (cc);
         }
 
-  module _ (d w : ℕ) (ready : Ready dry wet p a d w) where
-    pub too-dry : leZ (pos lowestVapour) (vapourPressure w a p dry wet) ≡ false → IsMoisture dry wet p a TooDry
-    unfolding answer
-    too-dry y =
-        record {
-          entry = w;
-          near = λ h. ready .tabled .near-wet;
-          figures = none;
-          first = rw (ready .limits, ready .bulbs, y);
-          worked = λ e. impossible (cc);
-        }
+    module _ (w i : ℕ) (entries : EntriesFor s wet w i) where
+      -- 13
+      pub above : wetAboveDry s dry wet ≡ true → IsMoisture s dry wet p a WetAboveDry
+      unfolding answer
+      above x =
+          record {
+            d = d;
+            w = w;
+            i = i;
+            near = λ h. near;
+            entries = λ h k. entries;
+            figures = none;
+            first = rw (limits, x);
+            worked = λ e. impossible (cc);
+          }
 
-    pub figured : (h : HumidityFigures) → leZ (pos lowestVapour) (vapourPressure w a p dry wet) ≡ true →
-        FiguresOf (natAbs (vapourPressure w a p dry wet)) d h → IsMoisture dry wet p a (Given h)
-    unfolding answer
-    figured h y f =
-        record {
-          entry = w;
-          near = λ q. ready .tabled .near-wet;
-          figures = h;
-          first = rw (ready .limits, ready .bulbs, y);
-          worked = λ q. record {
-            entry = w;
-            near = ready .tabled .near-wet;
-            saturation = rw (f .is-saturation) (ready .tabled .near-dry);
-            e = ap pos (f .is-e) ∙ whole-e (vapourPressure w a p dry wet) y .0;
-            follow = f .follow;
-          };
-        }
+      module _ (bulbs : wetAboveDry s dry wet ≡ false) (cold : tooWarmForIce s wet ≡ false) where
+        -- 21
+        pub no-doubt : unknownOutside s dry ≡ true → IsMoisture s dry wet p a UnknownOutsideRange
+        unfolding answer
+        no-doubt x =
+            record {
+              d = d;
+              w = w;
+              i = i;
+              near = λ h. near;
+              entries = λ h k. entries;
+              figures = none;
+              first = rw (limits, bulbs, cold, x);
+              worked = λ e. impossible (cc);
+            }
 
-    -- e as the code has it: n is its size
-    pub e-order : (n : ℕ) → n ≡ natAbs (vapourPressure w a p dry wet) → leZ (pos lowestVapour) (vapourPressure w a p dry wet) ≡ true → Order n w d
-    e-order n h y =
-        rw h (in-order dry wet p a w d (within dry wet p a (ready .limits)) (ready .bulbs) (ready .tabled .near-wet) (ready .tabled .near-dry) y)
+        -- else e and saturation decide
+        pub by-vapour : unknownOutside s dry ≡ false → (m : Moisture) → IsByVapour (vapourPressure s w i a p dry wet) d m → IsMoisture s dry wet p a m
+        unfolding answer
+        by-vapour x m is =
+            record {
+              d = d;
+              w = w;
+              i = i;
+              near = λ h. near;
+              entries = λ h k. entries;
+              figures = is .figures;
+              first = rw (limits, bulbs, cold, x) (is .first);
+              worked = λ g. let f = is .worked g in record {
+                w = w;
+                i = i;
+                entries = entries;
+                saturation = subst (λ (n : ℕ). Near water dry n) (sym (f .is-saturation)) near;
+                e = f .is-e;
+                follow = f .follow;
+              };
+            }

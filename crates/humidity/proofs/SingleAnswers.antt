@@ -8,16 +8,18 @@ use lib.IntN.{ℤ, pos, natAbs}
 use Rattle.number.specs.Single.{Single}
 use Rattle.number.specs.Refusal.{Answer, refused, given, answer}
 use Rattle.number.proofs.RefusalLaws.{refused-then, then-refused}
+use Rattle.quantity.specs.declared.BulbState.{BulbState}
 use Rattle.vapour.specs.Vapour.{water}
 use Rattle.vapour.specs.declared.VapourPressure.{VapourPressure}
 use Rattle.vapour.specs.declared.DewTemperature.{DewTemperature}
 use Rattle.vapour.proofs.SaturationLaws.{near-one}
 use Rattle.vapour.proofs.DewLaws.{dew-one}
 use Rattle.vapour.proofs.SingleAnswers.{pressure-by, dew-by}
-use Rattle.humidity.specs.Humidity.{vapourPressure, withinLimits, tests, moistureAs, IsHumidity, IsMoisture}
+use Rattle.humidity.specs.Humidity.{vapourPressure, tooWarmForIce, withinLimits, tests, moistureAs, IsHumidity, IsMoisture}
 use Rattle.humidity.specs.declared.HumidityFigures.{HumidityFigures}
 use Rattle.humidity.specs.declared.Moisture.{Moisture}
-use Rattle.humidity.specs.declared.Moisture.the-variants.{Given, WetAboveDry, TooDry, OutsideLimits}
+use Rattle.humidity.specs.declared.Moisture.the-variants.{Given, WetAboveDry, TooWarmForIce, UnknownOutsideRange, AboveSaturation, TooDry, OutsideLimits}
+use Rattle.humidity.proofs.VapourPressureLaws.{one-e}
 use Rattle.humidity.proofs.HumidityTheorems.{figured-then}
 use Rattle.humidity.proofs.humidity.Reads as humidity
 
@@ -33,10 +35,9 @@ figures-by {h} {k} a b c d e = all
     all : make (h .e) (h .saturation) (h .deficit) (h .relative) (h .dew) ≡ make (k .e) (k .saturation) (k .deficit) (k .relative) (k .dew)
     all = cc
 
-pub one-humidity : (dry wet p a : ℤ) (h k : HumidityFigures) → IsHumidity dry wet p a h → IsHumidity dry wet p a k → h ≡ k
-one-humidity dry wet p a h k x y =
-    let w = near-one water wet (x .entry) (y .entry) (x .near) (y .near) in
-    let z : pos (h .e .0) ≡ pos (k .e .0) = x .e ∙ ap (λ (n : ℕ). vapourPressure n a p dry wet) w ∙ sym (y .e) in
+pub one-humidity : (s : BulbState) (dry wet p a : ℤ) (h k : HumidityFigures) → IsHumidity s dry wet p a h → IsHumidity s dry wet p a k → h ≡ k
+one-humidity state dry wet p a h k x y =
+    let z : pos (h .e .0) ≡ pos (k .e .0) = x .e ∙ one-e a p dry wet (x .w) (x .i) (y .w) (y .i) state (x .entries) (y .entries) ∙ sym (y .e) in
     let e : h .e .0 ≡ k .e .0 = ap natAbs z in
     let s : h .saturation .0 ≡ k .saturation .0 = near-one water dry (h .saturation .0) (k .saturation .0) (x .saturation) (y .saturation) in
     figures-by
@@ -49,44 +50,55 @@ one-humidity dry wet p a h k x y =
 -- ---- refusals
 
 pub case-of : Answer ℕ HumidityFigures → Moisture
-case-of (refused n) = cond (eqb n 7) OutsideLimits (cond (eqb n 13) WetAboveDry TooDry)
+case-of (refused n) =
+    cond (eqb n 7) OutsideLimits
+    (cond (eqb n 13) WetAboveDry
+    (cond (eqb n 20) TooWarmForIce
+    (cond (eqb n 21) UnknownOutsideRange
+    (cond (eqb n 22) AboveSaturation
+    TooDry))))
 case-of (given h) = Given h
 
 pub case-back : (m : Moisture) → case-of (moistureAs m) ≡ m
 unfolding case-of
 case-back (Given h) = refl
 case-back WetAboveDry = refl
+case-back TooWarmForIce = refl
+case-back UnknownOutsideRange = refl
+case-back AboveSaturation = refl
 case-back TooDry = refl
 case-back OutsideLimits = refl
 
-module _ (dry wet p a : ℤ) where
+module _ (s : BulbState) (dry wet p a : ℤ) where
   -- what one answer is refused with, so is the other
-  refused-alike : (m k : Moisture) → IsMoisture dry wet p a m → IsMoisture dry wet p a k → (n : ℕ) → moistureAs m ≡ refused n → moistureAs k ≡ refused n
+  refused-alike : (m k : Moisture) → IsMoisture s dry wet p a m → IsMoisture s dry wet p a k → (n : ℕ) → moistureAs m ≡ refused n → moistureAs k ≡ refused n
   unfolding answer
-  refused-alike m k x y n e = go (withinLimits dry wet p a) refl
+  refused-alike m k x y n e = go (withinLimits dry wet p a) (tooWarmForIce s wet) refl refl
     where
-      go : (b : Bool) → withinLimits dry wet p a ≡ b → moistureAs k ≡ refused n
-      go true l =
-          let w = near-one water wet (x .entry) (y .entry) (x .near l) (y .near l) in
-          let ts = tests dry wet p a (vapourPressure (y .entry) a p dry wet) in
-          let z : answer ts (x .figures) ≡ refused n = subst (λ (i : ℕ). answer (tests dry wet p a (vapourPressure i a p dry wet)) (x .figures) ≡ refused n) w (sym (x .first) ∙ e) in
+      go : (b c : Bool) → withinLimits dry wet p a ≡ b → tooWarmForIce s wet ≡ c → moistureAs k ≡ refused n
+      go true false l t =
+          let v = one-e a p dry wet (x .w) (x .i) (y .w) (y .i) s (x .entries l t) (y .entries l t) in
+          let d = near-one water dry (x .d) (y .d) (x .near l) (y .near l) in
+          let ts = tests s dry wet p a (y .d) (vapourPressure s (y .w) (y .i) a p dry wet) in
+          let z : answer ts (x .figures) ≡ refused n = rw (d, v) at (sym (x .first) ∙ e) in
           let found = refused-then (x .figures) ts n z in
           y .first ∙ then-refused (y .figures) ts n (found .0) (found .1) (found .2)
-      go false l = rw l at (y .first) ∙ sym (rw l at (x .first)) ∙ e
+      go true true l t = rw (l, t) at (y .first) ∙ sym (rw (l, t) at (x .first)) ∙ e
+      go false c l t = rw l at (y .first) ∙ sym (rw l at (x .first)) ∙ e
 
-  pub one-moisture : (m k : Moisture) → IsMoisture dry wet p a m → IsMoisture dry wet p a k → m ≡ k
+  pub one-moisture : (m k : Moisture) → IsMoisture s dry wet p a m → IsMoisture s dry wet p a k → m ≡ k
   unfolding case-of
   one-moisture m k x y = go (moistureAs m) (moistureAs k) refl refl
     where
-      go : (r s : Answer ℕ HumidityFigures) → moistureAs m ≡ r → moistureAs k ≡ s → m ≡ k
-      go (refused n) s e f = sym (case-back m) ∙ ap case-of (e ∙ sym (refused-alike m k x y n e)) ∙ case-back k
+      go : (r q : Answer ℕ HumidityFigures) → moistureAs m ≡ r → moistureAs k ≡ q → m ≡ k
+      go (refused n) q e f = sym (case-back m) ∙ ap case-of (e ∙ sym (refused-alike m k x y n e)) ∙ case-back k
       go (given h) (refused n) e f = sym (case-back m) ∙ ap case-of (refused-alike k m y x n f ∙ sym f) ∙ case-back k
       go (given h) (given i) e f =
           let gm : m ≡ Given h = sym (case-back m) ∙ ap case-of e in
           let gk : k ≡ Given i = sym (case-back k) ∙ ap case-of f in
-          let a1 = figured-then dry wet p a h (subst (IsMoisture dry wet p a) gm x) in
-          let a2 = figured-then dry wet p a i (subst (IsMoisture dry wet p a) gk y) in
-          gm ∙ ap Given (one-humidity dry wet p a h i (a1 .is) (a2 .is)) ∙ sym gk
+          let a1 = figured-then s dry wet p a h (subst (IsMoisture s dry wet p a) gm x) in
+          let a2 = figured-then s dry wet p a i (subst (IsMoisture s dry wet p a) gk y) in
+          gm ∙ ap Given (one-humidity s dry wet p a h i a1 a2) ∙ sym gk
 
 pub single-humidity : Single humidity.Post
-single-humidity κs x r r′ s s′ p q = one-moisture _ _ _ _ r r′ p q
+single-humidity κs x r r′ s s′ p q = one-moisture _ _ _ _ _ r r′ p q

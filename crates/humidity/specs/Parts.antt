@@ -1,26 +1,27 @@
 -- What the parts of the work ask of each other.
 use mathlib.Core.Path.{_≡_}
-use mathlib.Core.Bool.{true, _&&_}
+use mathlib.Core.Bool.{true}
 use Prim.Native.Nat.{ℕ, _≤_}
-use lib.IntN.{ℤ, natAbs}
-use lib.Signed.{leZ}
-use Rattle.quantity.specs.Limits.{inside, bulb, recordedPressure}
+use lib.IntN.{ℤ, pos, natAbs}
+use Rattle.number.specs.Refusal.{answer}
+use Rattle.quantity.specs.Limits.{inside, bulb, frost, recordedPressure}
 use Rattle.settings.specs.Settings.{psychrometer}
-use Rattle.vapour.specs.Vapour.{Near, water}
-use Rattle.humidity.specs.Humidity.{withinLimits, Follow}
+use Rattle.vapour.specs.Vapour.{Near, water, ice}
+use Rattle.humidity.specs.Humidity.{withinLimits, byVapour, moistureAs, Follow}
 use Rattle.humidity.specs.declared.HumidityFigures.{HumidityFigures}
+use Rattle.humidity.specs.declared.Moisture.{Moisture}
+use Rattle.humidity.specs.declared.Moisture.the-variants.{Given}
 
--- both bulbs stand in the table, with these entries
-pub record Tabled (dry wet : ℤ) (d w : ℕ) : Type 0 where
-  pub within : (inside bulb dry && inside bulb wet) ≡ true
+-- refusal 7 does not hold, and the bulbs have these entries over water
+pub record Tabled (dry wet p a : ℤ) (d w : ℕ) : Type 0 where
+  pub limits : withinLimits dry wet p a ≡ true
   pub near-dry : Near water dry d
   pub near-wet : Near water wet w
 
--- and neither refusal 7 nor refusal 13 holds
-pub record Ready (dry wet p a : ℤ) (d w : ℕ) : Type 0 where
-  pub tabled : Tabled dry wet d w
-  pub limits : withinLimits dry wet p a ≡ true
-  pub bulbs : leZ wet dry ≡ true
+-- the wet bulb has this entry over ice
+pub record Frozen (wet : ℤ) (i : ℕ) : Type 0 where
+  pub within : inside frost wet ≡ true
+  pub near : Near ice wet i
 
 -- no figure is larger than its limits allow
 pub record Sized (dry wet p a : ℤ) : Type 0 where
@@ -29,8 +30,22 @@ pub record Sized (dry wet p a : ℤ) : Type 0 where
   pub size-p : natAbs p ≤ natAbs (recordedPressure .high)
   pub size-a : natAbs a ≤ natAbs (psychrometer .high)
 
+-- no factor is larger than that over water at 50.0 °C
+abbrev pub largestFactor : ℕ
+largestFactor = 1057500
+
+-- no e is larger before it is rounded: 12345 times the parts of a hundredth and 1000 × 11500 × 1000 × the largest factor
+abbrev pub largestExact : ℕ
+largestExact = 24506250000000000
+
 -- the figures of e and saturation
-pub record FiguresOf (e s : ℕ) (h : HumidityFigures) : Type 0 where
-  pub is-e : h .e .0 ≡ e
+pub record FiguresOf (e : ℤ) (s : ℕ) (h : HumidityFigures) : Type 0 where
+  pub is-e : pos (h .e .0) ≡ e
   pub is-saturation : h .saturation .0 ≡ s
   pub follow : Follow h
+
+-- what e and saturation come to: 22, 15, or the figures
+pub record IsByVapour (e : ℤ) (saturation : ℕ) (m : Moisture) : Type 0 where
+  pub figures : HumidityFigures
+  pub first : moistureAs m ≡ answer (byVapour saturation e) figures
+  pub worked : m ≡ Given figures → FiguresOf e saturation figures

@@ -1,20 +1,25 @@
-// Humidity by the psychrometer: vapour pressure, saturation, deficit, relative humidity and dew point; refusals 7, 13 and 15.
+// Humidity by the psychrometer: vapour pressure by what is on the wick, saturation, deficit, relative humidity and dew point; refusals
+// 7, 13, 20, 21, 22 and 15.
 ghost use mathlib.Core.Path.{_≡_};
 ghost use mathlib.Core.Bool.{true, _&&_};
 ghost use Prim.Native.Nat.{_≤_};
+ghost use lib.IntN.{pos, natAbs};
 ghost use Rattle.number.specs.Whole.{Is};
-ghost use Rattle.quantity.specs.Limits.{inside, recordedPressure};
+ghost use Rattle.quantity.specs.Limits.{inside, bulb, recordedPressure};
+ghost use Rattle.quantity.specs.declared.BulbState.the-variants.{Water, Ice, Unknown};
 ghost use Rattle.settings.specs.Settings.{psychrometer};
 ghost use Rattle.vapour.specs.Vapour.{DewPoint, lowestVapour, highestVapour, recordedVapour};
-ghost use Rattle.humidity.specs.Humidity.{lessBy, vapourPressure, IsMoisture};
-ghost use Rattle.humidity.specs.Parts.{Tabled, Ready, Sized, FiguresOf};
+ghost use Rattle.humidity.specs.Humidity.{waterFactor, exact, IsMoisture};
+ghost use Rattle.humidity.specs.Parts.{Tabled, Frozen, Sized, largestFactor, largestExact, FiguresOf, IsByVapour};
 use number::Kept;
 use number::Number;
+use quantity::BulbState;
 use quantity::BulbTemperature;
 use quantity::Hectopascals;
 use settings::PsychrometerCoefficient;
 use vapour::Dew;
 use vapour::DewTemperature;
+use vapour::OverIce;
 use vapour::Saturations;
 use vapour::VapourPressure;
 
@@ -32,6 +37,12 @@ pub enum Moisture {
     Given(HumidityFigures),
     // 13
     WetAboveDry,
+    // 20
+    TooWarmForIce,
+    // 21
+    UnknownOutsideRange,
+    // 22
+    AboveSaturation,
     // 15
     TooDry,
     // 7: a figure outside its limits
@@ -48,28 +59,41 @@ fn others_hold(pressure: Number, a: Number) -> bool
     false
 }
 
-// A × pressure × (dry - wet) × (1 + 0.00115 wet), exactly: in 10¹² parts of a hundredth of hPa.
-fn less_by(a: Number, pressure: Number, dry: Number, wet: Number) -> Number
-    requires { ⌜ Sized (dry .v) (wet .v) (pressure .v) (a .v) ⌝ }
-    ensures { λ r. ⌜ Is (r .v) (lessBy (a .v) (pressure .v) (dry .v) (wet .v)) 12161250000000000 ⌝ }
+// ---- vapour pressure
+
+// A hundredth of hPa in the parts that e is worked in.
+const PARTS: Number = Number { v: 1000000000000 };
+
+// The factor over ice, in millionths.
+const ICE_FACTOR: Number = Number { v: 882200 };
+
+// The factor over water, in millionths: 1 + 0.00115 wet.
+fn water_factor(wet: Number) -> Number
+    requires { ⌜ natAbs (wet .v) ≤ natAbs (bulb .high) ⌝ }
+    ensures { λ r. ⌜ Is (r .v) (waterFactor (wet .v)) largestFactor ⌝ }
 {
     let one = Number { v: 1000000 };
     let step = Number { v: 115 };
-    let growth = one.plus(step.times(wet));
-    a.times(pressure).times(dry.minus(wet)).times(growth)
+    one.plus(step.times(wet))
 }
 
-// The vapour pressure by the wet bulb's entry, rounded once to 0.01 hPa.
-fn vapour_pressure(table: u32, a: Number, pressure: Number, dry: Number, wet: Number) -> Number
-    requires { ⌜ (table ≤ highestVapour) × Sized (dry .v) (wet .v) (pressure .v) (a .v) ⌝ }
-    ensures { λ r. ⌜ r .v ≡ vapourPressure table (a .v) (pressure .v) (dry .v) (wet .v) ⌝ }
+// e before it is rounded: a table's entry of the wet bulb less A × pressure × (dry - wet) × factor, exactly.
+fn exact(
+    table: u32,
+    factor: Number,
+    a: Number,
+    pressure: Number,
+    dry: Number,
+    wet: Number,
+) -> Number
+    requires { ⌜ (table ≤ highestVapour) × (natAbs (factor .v) ≤ largestFactor) × Sized (dry .v) (wet .v) (pressure .v) (a .v) ⌝ }
+    ensures { λ r. ⌜ Is (r .v) (exact table (factor .v) (a .v) (pressure .v) (dry .v) (wet .v)) largestExact ⌝ }
 {
-    let parts = Number { v: 1000000000000 };
-    let whole = Number::whole(table).times(parts);
-    whole
-        .minus(less_by(a, pressure, dry, wet))
-        .over(1000000000000)
+    let less = a.times(pressure).times(dry.minus(wet)).times(factor);
+    Number::whole(table).times(PARTS).minus(less)
 }
+
+// ---- what follows from it
 
 // The dew point of an e in the range.
 fn dew(e: VapourPressure) -> DewTemperature
@@ -85,7 +109,7 @@ fn dew(e: VapourPressure) -> DewTemperature
 // The figures of e and saturation.
 fn figures(e: VapourPressure, saturation: VapourPressure) -> HumidityFigures
     requires { ⌜ (lowestVapour ≤ e .0) × (e .0 ≤ saturation .0) × (saturation .0 ≤ highestVapour) ⌝ }
-    ensures { λ r. ⌜ FiguresOf (e .0) (saturation .0) r ⌝ }
+    ensures { λ r. ⌜ FiguresOf (pos (e .0)) (saturation .0) r ⌝ }
 {
     let t = dew(e);
     HumidityFigures {
@@ -97,54 +121,87 @@ fn figures(e: VapourPressure, saturation: VapourPressure) -> HumidityFigures
     }
 }
 
-// What both bulbs come to where refusals 7 and 13 do not hold: d and w are their entries in the table.
-fn by_entries(dry: Number, wet: Number, pressure: Number, a: Number, d: u32, w: u32) -> Moisture
-    requires { ⌜ Ready (dry .v) (wet .v) (pressure .v) (a .v) d w ⌝ }
-    ensures { λ r. ⌜ IsMoisture (dry .v) (wet .v) (pressure .v) (a .v) r ⌝ }
+// What e and saturation at the dry bulb come to: 22, 15, or the figures.
+fn by_vapour(e: Number, saturation: u32) -> Moisture
+    requires { ⌜ saturation ≤ highestVapour ⌝ }
+    ensures { λ r. ⌜ IsByVapour (e .v) saturation r ⌝ }
 {
-    let e = vapour_pressure(w, a, pressure, dry, wet);
+    if !e.at_most(Number::whole(saturation)) {
+        return Moisture::AboveSaturation;
+    }
     let least = Number::whole(VapourPressure::LOW);
     if !least.at_most(e) {
         return Moisture::TooDry;
     }
-    Moisture::Given(figures(VapourPressure(e.size() as u32), VapourPressure(d)))
+    Moisture::Given(figures(VapourPressure(e.size() as u32), VapourPressure(saturation)))
 }
 
-// What both bulbs come to where they stand in the table.
-fn in_table(dry: Number, wet: Number, pressure: Number, a: Number, d: u32, w: u32) -> Moisture
-    requires { ⌜ Tabled (dry .v) (wet .v) d w ⌝ }
-    ensures { λ r. ⌜ IsMoisture (dry .v) (wet .v) (pressure .v) (a .v) r ⌝ }
+// ---- by the state, where refusal 7 does not hold: d and w are the bulbs' entries over water, i the wet bulb's over ice
+
+fn on_water(dry: Number, wet: Number, pressure: Number, a: Number, d: u32, w: u32) -> Moisture
+    requires { ⌜ Tabled (dry .v) (wet .v) (pressure .v) (a .v) d w ⌝ }
+    ensures { λ r. ⌜ IsMoisture Water (dry .v) (wet .v) (pressure .v) (a .v) r ⌝ }
 {
-    if !others_hold(pressure, a) {
-        return Moisture::OutsideLimits;
-    }
     if !wet.at_most(dry) {
         return Moisture::WetAboveDry;
     }
-    by_entries(dry, wet, pressure, a, d, w)
+    let e = exact(w, water_factor(wet), a, pressure, dry, wet);
+    by_vapour(e.over(1000000000000), d)
 }
 
-// The humidity of both bulbs at a station pressure, or the first of refusals 7, 13 and 15 that holds.
+fn on_ice(dry: Number, wet: Number, pressure: Number, a: Number, d: u32, w: u32, i: u32) -> Moisture
+    requires { ⌜ Tabled (dry .v) (wet .v) (pressure .v) (a .v) d w × Frozen (wet .v) i ⌝ }
+    ensures { λ r. ⌜ IsMoisture Ice (dry .v) (wet .v) (pressure .v) (a .v) r ⌝ }
+{
+    let e = exact(i, ICE_FACTOR, a, pressure, dry, wet);
+    by_vapour(e.over(1000000000000), d)
+}
+
+fn in_doubt(dry: Number, wet: Number, pressure: Number, a: Number, d: u32, w: u32, i: u32) -> Moisture
+    requires { ⌜ Tabled (dry .v) (wet .v) (pressure .v) (a .v) d w × Frozen (wet .v) i ⌝ }
+    ensures { λ r. ⌜ IsMoisture Unknown (dry .v) (wet .v) (pressure .v) (a .v) r ⌝ }
+{
+    if !BulbTemperature::leaves_doubt(dry) {
+        return Moisture::UnknownOutsideRange;
+    }
+    let over_ice = exact(i, ICE_FACTOR, a, pressure, dry, wet);
+    if dry.at_most(wet) {
+        return by_vapour(over_ice.over(1000000000000), d);
+    }
+    let over_water = exact(w, water_factor(wet), a, pressure, dry, wet);
+    by_vapour(over_water.plus(over_ice).over(2000000000000), d)
+}
+
+// The humidity of both bulbs at a station pressure, by what is on the wet bulb's wick, or the first of refusals 7, 13, 20, 21, 22 and 15
+// that holds.
 pub fn humidity(
+    state: BulbState,
     dry: BulbTemperature,
     wet: BulbTemperature,
     pressure: Hectopascals,
     a: PsychrometerCoefficient,
 ) -> Moisture
-    ensures { λ r. ⌜ IsMoisture (dry .0 .v) (wet .0 .v) (pressure .0 .v) (a .0 .v) r ⌝ }
+    ensures { λ r. ⌜ IsMoisture state (dry .0 .v) (wet .0 .v) (pressure .0 .v) (a .0 .v) r ⌝ }
 {
-    let t = dry.0;
-    let u = wet.0;
-    let k = a.0;
-    match vapour::saturation(dry, wet) {
-        Saturations::OutsideTable => Moisture::OutsideLimits,
-        Saturations::Entries(d, w) => in_table(
-            t.number(),
-            u.number(),
-            pressure.0,
-            k.number(),
-            d.0,
-            w.0,
-        ),
+    let t = dry.0.number();
+    let u = wet.0.number();
+    let k = a.0.number();
+    let p = pressure.0;
+    let Saturations::Entries(d, w) = vapour::saturation(dry, wet) else {
+        return Moisture::OutsideLimits;
+    };
+    if !others_hold(p, k) {
+        return Moisture::OutsideLimits;
+    }
+    match state {
+        BulbState::Water => on_water(t, u, p, k, d.0, w.0),
+        BulbState::Ice => match vapour::saturation_over_ice(wet) {
+            OverIce::Entry(i) => on_ice(t, u, p, k, d.0, w.0, i.0),
+            OverIce::OutsideIceTable => Moisture::TooWarmForIce,
+        },
+        BulbState::Unknown => match vapour::saturation_over_ice(wet) {
+            OverIce::Entry(i) => in_doubt(t, u, p, k, d.0, w.0, i.0),
+            OverIce::OutsideIceTable => Moisture::TooWarmForIce,
+        },
     }
 }

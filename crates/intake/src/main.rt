@@ -1,5 +1,5 @@
-// Reads messages from standard input, 16 bytes each, and writes a line for each: channel, minute and values in tenths or whole
-// degrees, or the refusal. The unit of the barometer is the first argument, hPa or mmHg.
+// Reads messages from standard input, 16 bytes each, and writes a line for each: channel, minute, values in tenths or whole degrees
+// and the wet bulb's state, or the refusal. The unit of the barometer is the first argument, hPa or mmHg.
 use libc::STDOUT_FILENO;
 use message::Reading;
 use message::Received;
@@ -34,23 +34,23 @@ fn say_refusal(r: MessageRefusal) {
     say(b"\n");
 }
 
-fn say_one(channel: u32, minute: u32, first: Number) {
+fn say_start(channel: u32, minute: u32, first: Number) {
     say_natural(channel);
     say(b" ");
     say_natural(minute);
     say(b" ");
     say_number(first);
+}
+
+fn say_one(channel: u32, minute: u32, first: Number) {
+    say_start(channel, minute, first);
     say(b"\n");
 }
 
-fn say_two(channel: u32, minute: u32, speed: u32, angle: u32) {
-    say_natural(channel);
+fn say_two(channel: u32, minute: u32, first: Number, second: u32) {
+    say_start(channel, minute, first);
     say(b" ");
-    say_natural(minute);
-    say(b" ");
-    say_natural(speed);
-    say(b" ");
-    say_natural(angle);
+    say_natural(second);
     say(b"\n");
 }
 
@@ -65,15 +65,15 @@ fn say_reading(minute: u32, r: Reading) {
             let n = t.0;
             say_one(1, minute, n.number())
         }
-        Reading::ApparentWind(v, d) => say_two(2, minute, v.0, d.0),
-        Reading::ShipMotion(v, d) => say_two(3, minute, v.0, d.0),
+        Reading::ApparentWind(v, d) => say_two(2, minute, Number::whole(v.0), d.0),
+        Reading::ShipMotion(v, d) => say_two(3, minute, Number::whole(v.0), d.0),
         Reading::DryBulb(t) => {
             let n = t.0;
             say_one(4, minute, n.number())
         }
-        Reading::WetBulb(t) => {
+        Reading::WetBulb(state, t) => {
             let n = t.0;
-            say_one(5, minute, n.number())
+            say_two(5, minute, n.number(), state.number())
         }
     }
 }

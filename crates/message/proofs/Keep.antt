@@ -17,7 +17,7 @@ use Rattle.quantity.specs.Limits as limits
 use Rattle.quantity.specs.declared.BarometerUnit.{BarometerUnit}
 use Rattle.quantity.specs.declared.BarometerUnit.the-variants.{Hectopascals, Millimetres}
 use Rattle.message.specs.Value.{toWhole, timesRounded}
-use Rattle.message.specs.Receive.{Figure, none, deg, Entry, compass}
+use Rattle.message.specs.Receive.{Figure, deg, Entry, compass}
 use Rattle.message.specs.Work.{most, capped, oneFigure, twoFigures}
 
 -- a barometer's reading is small, whatever its unit
@@ -29,17 +29,18 @@ pressure-size Millimetres z i = omega (arith, within-size (pos 6400) (pos 8250) 
 abbrev pub Small : Limits → Type 0
 Small l = (natAbs (l .low) < most) × (natAbs (l .high) < most)
 
-module _ (l : Limits) (channel t : ℕ) (figure : ℤ → Figure) (z : ℤ) where
+module _ (l : Limits) (channel t : ℕ) (figure : ℤ → Figure) (beside : Figure) (z : ℤ) where
   -- w is z as it was kept
   pub one-given : (w : ℤ) → w ≡ z → inside l z ≡ true →
-      given (record { channel = channel; minute = t; first = figure w; second = none }) ≡ oneFigure l channel t figure z
+      given (record { channel = channel; minute = t; first = figure w; second = beside }) ≡ oneFigure l channel t figure beside z
   unfolding answer
   one-given w e i = rw (e, i)
 
-  pub one-refused : inside l z ≡ false → refused 7 ≡ oneFigure l channel t figure z
+  pub one-refused : inside l z ≡ false → refused 7 ≡ oneFigure l channel t figure beside z
   unfolding answer
   one-refused i = rw i
 
+module _ (l : Limits) (channel t : ℕ) (figure : ℤ → Figure) (z : ℤ) where
   pub two-given : (a w d : ℤ) → w ≡ z → d ≡ compass a → inside l z ≡ true → inside limits.degrees a ≡ true →
       given (record { channel = channel; minute = t; first = figure w; second = deg d }) ≡ twoFigures l channel t figure z a
   unfolding answer
@@ -74,10 +75,10 @@ module _ (n : ℕ) (l : Limits) (small : Small l) where
       go k (no h) = inr (beyond (min k most) (omega arith), beyond k (omega arith))
 
   module _ (channel t : ℕ) (figure : ℤ → Figure) (x : Float) where
-    pub one-exact : oneFigure l channel t figure (capped n x) ≡ oneFigure l channel t figure (timesRounded n x)
-    one-exact =
-        ⊎-elim (λ e. ap (oneFigure l channel t figure) e)
-        (λ w. sym (one-refused l channel t figure (capped n x) (w .0)) ∙ one-refused l channel t figure (timesRounded n x) (w .1))
+    pub one-exact : (beside : Figure) → oneFigure l channel t figure beside (capped n x) ≡ oneFigure l channel t figure beside (timesRounded n x)
+    one-exact beside =
+        ⊎-elim (λ e. ap (oneFigure l channel t figure beside) e)
+        (λ w. sym (one-refused l channel t figure beside (capped n x) (w .0)) ∙ one-refused l channel t figure beside (timesRounded n x) (w .1))
         (cut x)
 
     two-exact-first : (a : ℤ) → twoFigures l channel t figure (capped n x) a ≡ twoFigures l channel t figure (timesRounded n x) a

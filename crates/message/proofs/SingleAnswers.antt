@@ -10,7 +10,7 @@ use Rattle.number.specs.Refusal.{Answer, refused, given}
 use Rattle.number.specs.declared.Number.{Number}
 use Rattle.number.specs.declared.Kept.{Kept}
 use Rattle.quantity.specs.declared.Minute.{Minute}
-use Rattle.message.specs.Receive.{Figure, hPa, mmHg, °C, m/s, kn, deg, none, Entry, entryOf, receivedAs}
+use Rattle.message.specs.Receive.{Figure, hPa, mmHg, °C, m/s, kn, deg, wick, none, onWick, Entry, entryOf, receivedAs}
 use Rattle.wire.proofs.SingleAnswers.{refusal, refusal-back}
 use Rattle.message.specs.declared.Reading.{Reading}
 use Rattle.message.specs.declared.Reading.the-variants.{Hectopascals, Millimetres, Wheelhouse, ApparentWind, ShipMotion, DryBulb, WetBulb}
@@ -25,6 +25,7 @@ size (°C z) = natAbs z
 size (m/s z) = natAbs z
 size (kn z) = natAbs z
 size (deg z) = natAbs z
+size (wick s) = 0
 size none = 0
 
 abbrev kept : ℤ → Kept
@@ -36,11 +37,12 @@ reading channel (hPa z) y = Hectopascals (record { 0 = record { v = z } })
 reading channel (mmHg z) y = Millimetres (record { 0 = kept z })
 reading channel (°C z) y =
     cond (eqb channel 1) (Wheelhouse (record { 0 = kept z }))
-    (cond (eqb channel 4) (DryBulb (record { 0 = kept z })) (WetBulb (record { 0 = kept z })))
+    (cond (eqb channel 4) (DryBulb (record { 0 = kept z })) (WetBulb (onWick y) (record { 0 = kept z })))
 reading channel (m/s z) y = ApparentWind (record { 0 = natAbs z }) (record { 0 = size y })
 reading channel (kn z) y = ShipMotion (record { 0 = natAbs z }) (record { 0 = size y })
-reading channel (deg z) y = WetBulb (record { 0 = kept z })
-reading channel none y = WetBulb (record { 0 = kept (pos 0) })
+reading channel (deg z) y = DryBulb (record { 0 = kept z })
+reading channel (wick s) y = DryBulb (record { 0 = kept (pos 0) })
+reading channel none y = DryBulb (record { 0 = kept (pos 0) })
 
 pub entry-back : (t : ℕ) (r : Reading) → let e = entryOf t r in reading (e .channel) (e .first) (e .second) ≡ r
 unfolding reading size
@@ -50,7 +52,7 @@ entry-back t (Wheelhouse x) = refl
 entry-back t (ApparentWind v d) = refl
 entry-back t (ShipMotion v d) = refl
 entry-back t (DryBulb x) = refl
-entry-back t (WetBulb x) = refl
+entry-back t (WetBulb s x) = refl
 
 pub entry-minute : (t : ℕ) (r : Reading) → entryOf t r .minute ≡ t
 entry-minute t (Hectopascals p) = refl
@@ -59,7 +61,7 @@ entry-minute t (Wheelhouse x) = refl
 entry-minute t (ApparentWind v d) = refl
 entry-minute t (ShipMotion v d) = refl
 entry-minute t (DryBulb x) = refl
-entry-minute t (WetBulb x) = refl
+entry-minute t (WetBulb s x) = refl
 
 receiving-of : Answer ℕ Entry → Received
 receiving-of (refused n) = receiving.Refused (refusal n)

@@ -8,8 +8,9 @@ use Rattle.number.specs.Round.{nearest}
 use Rattle.number.specs.Refusal.{Answer, refused, given, answer}
 use Rattle.quantity.specs.declared.BarometerUnit.{BarometerUnit}
 use Rattle.quantity.specs.declared.BarometerUnit.the-variants.{Hectopascals, Millimetres}
+use Rattle.quantity.specs.declared.BulbState.the-variants.{Water, Ice, Unknown}
 use Rattle.message.specs.Value.{toWhole}
-use Rattle.message.specs.Receive.{Figure, hPa, mmHg, °C, m/s, kn, deg, none, Entry, received}
+use Rattle.message.specs.Receive.{Figure, hPa, mmHg, °C, m/s, kn, deg, wick, none, Entry, received}
 
 -- four bytes of a number, and a message of a channel with a state, at minute 100, with the patterns of two values
 four : ℕ → List ℕ
@@ -62,11 +63,15 @@ rows =
     ∷ row Hectopascals (sent 3 0 0x4100_0000 0xbecc_cccd) (kept 3 (kn (pos 80)) (deg (pos 0)))
     ∷ row Hectopascals (sent 3 0 0x4100_0000 0xbf00_0000) (refused 7)
     ∷ row Hectopascals (sent 3 0 0x4100_0000 0x4127_5c29) (kept 3 (kn (pos 80)) (deg (pos 10)))
-    -- negative zero in an unused second value; a state on channel 4; on channel 5; there with a stray byte too
+    -- negative zero in an unused second value; a state on channel 4
     ∷ row Hectopascals (sent 0 0 0x447d_5000 0x8000_0000) (refused 3)
     ∷ row Hectopascals (sent 4 1 0x3e80_0000 0) (refused 3)
-    ∷ row Hectopascals (sent 5 1 0x3e80_0000 0) (refused 4)
-    ∷ row Hectopascals (sent 5 1 0x3e80_0000 1) (refused 3)
+    -- water, ice and an unknown state on channel 5, at any temperature of its limits; a state above 2; there with a stray byte too
+    ∷ row Hectopascals (sent 5 0 0x3e80_0000 0) (kept 5 (°C (pos 3)) (wick Water))
+    ∷ row Hectopascals (sent 5 1 0x3e80_0000 0) (kept 5 (°C (pos 3)) (wick Ice))
+    ∷ row Hectopascals (sent 5 2 0xc120_0000 0) (kept 5 (°C (negℤ (pos 100))) (wick Unknown))
+    ∷ row Hectopascals (sent 5 3 0x3e80_0000 0) (refused 4)
+    ∷ row Hectopascals (sent 5 3 0x3e80_0000 1) (refused 3)
     -- channel 6; no bytes, 15 and 17
     ∷ row Hectopascals (sent 6 0 0x3e80_0000 0) (refused 2)
     ∷ row Hectopascals [] (refused 1)

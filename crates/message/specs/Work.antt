@@ -10,7 +10,7 @@ use Rattle.quantity.specs.Limits.{Limits, inside}
 use Rattle.quantity.specs.Limits as limits
 use Rattle.message.specs.Value.{toWhole}
 use Rattle.wire.specs.Decode.{test}
-use Rattle.message.specs.Receive.{Figure, none, deg, Entry, compass}
+use Rattle.message.specs.Receive.{Figure, deg, Entry, compass}
 
 -- The digits of a binary64 pattern, with the leading one that normal numbers leave out.
 abbrev pub digits : ℕ → ℕ → ℕ
@@ -26,10 +26,10 @@ capped n nan = pos 0
 capped n (inf minus) = pos 0
 capped n (fin minus m e) = signed minus (min (toWhole (n * (m * up e)) (down e)) most)
 
--- Refusal 7 or the entry, of a channel with one value and of one with two.
-abbrev pub oneFigure : Limits → ℕ → ℕ → (ℤ → Figure) → ℤ → Answer ℕ Entry
-oneFigure l channel t figure z =
-    answer (test 7 (not (inside l z)) ∷ []) (record { channel = channel; minute = t; first = figure z; second = none })
+-- Refusal 7 or the entry, of a channel with one value, whatever stands beside that, and of one with two.
+abbrev pub oneFigure : Limits → ℕ → ℕ → (ℤ → Figure) → Figure → ℤ → Answer ℕ Entry
+oneFigure l channel t figure beside z =
+    answer (test 7 (not (inside l z)) ∷ []) (record { channel = channel; minute = t; first = figure z; second = beside })
 
 abbrev pub twoFigures : Limits → ℕ → ℕ → (ℤ → Figure) → ℤ → ℤ → Answer ℕ Entry
 twoFigures l channel t figure z a =

@@ -1,6 +1,5 @@
 // A message: 16 bytes in, a reading out, or the first refusal of 1 to 7 that holds.
 ghost use mathlib.Core.Path.{_≡_};
-ghost use mathlib.Core.Bool.{cond};
 ghost use Prim.Native.Nat.{_+_, _*_, _-_, _^_, _<_, min};
 ghost use lib.IntN.{natAbs};
 ghost use Rattle.number.specs.Refusal.{answer};
@@ -9,10 +8,11 @@ ghost use Rattle.quantity.specs.Limits as limits;
 ghost use Rattle.wire.specs.Finite.{Finite};
 ghost use Rattle.wire.specs.Kinds.{Sound};
 ghost use Rattle.message.specs.Value.{toWhole};
-ghost use Rattle.message.specs.Receive.{°C, m/s, kn, pressure, entry, limitTests, received, receivedAs};
+ghost use Rattle.message.specs.Receive.{°C, m/s, kn, wick, none, pressure, entry, limitTests, received, receivedAs};
 ghost use Rattle.message.specs.Work.{digits, most, capped, oneFigure, twoFigures};
 use number::Number;
 use quantity::BarometerUnit;
+use quantity::BulbState;
 use quantity::BulbTemperature;
 use quantity::Degrees;
 use quantity::Hectopascals;
@@ -33,7 +33,7 @@ pub enum Reading {
     ApparentWind(MetresPerSecond, Degrees),
     ShipMotion(Knots, Degrees),
     DryBulb(BulbTemperature),
-    WetBulb(BulbTemperature),
+    WetBulb(BulbState, BulbTemperature),
 }
 
 // What a message comes to: a refusal, or a reading at its minute.
@@ -109,7 +109,7 @@ fn natural(n: Number) -> u32
 }
 
 fn barometer(minute: Minute, n: Number, unit: BarometerUnit) -> Received
-    ensures { λ r. ⌜ receivedAs r ≡ oneFigure (pressureLimits unit) 0 (minute .0) (pressure unit) (n .v) ⌝ }
+    ensures { λ r. ⌜ receivedAs r ≡ oneFigure (pressureLimits unit) 0 (minute .0) (pressure unit) none (n .v) ⌝ }
 {
     if !unit.holds(n) {
         return Received::Refused(MessageRefusal::OutsideLimits);
@@ -125,7 +125,7 @@ fn barometer(minute: Minute, n: Number, unit: BarometerUnit) -> Received
 }
 
 fn wheelhouse(minute: Minute, n: Number) -> Received
-    ensures { λ r. ⌜ receivedAs r ≡ oneFigure limits.wheelhouse 1 (minute .0) °C (n .v) ⌝ }
+    ensures { λ r. ⌜ receivedAs r ≡ oneFigure limits.wheelhouse 1 (minute .0) °C none (n .v) ⌝ }
 {
     if WheelhouseTemperature::holds(n) {
         return Received::At(minute, Reading::Wheelhouse(WheelhouseTemperature(n.keep())));
@@ -161,15 +161,20 @@ fn ship_motion(minute: Minute, n: Number, a: Number) -> Received
     Received::Refused(MessageRefusal::OutsideLimits)
 }
 
-fn bulb(minute: Minute, wet: bool, n: Number) -> Received
-    ensures { λ r. ⌜ receivedAs r ≡ oneFigure limits.bulb (cond wet 5 4) (minute .0) °C (n .v) ⌝ }
+fn dry_bulb(minute: Minute, n: Number) -> Received
+    ensures { λ r. ⌜ receivedAs r ≡ oneFigure limits.bulb 4 (minute .0) °C none (n .v) ⌝ }
 {
     if BulbTemperature::holds(n) {
-        let t = BulbTemperature(n.keep());
-        if wet {
-            return Received::At(minute, Reading::WetBulb(t));
-        }
-        return Received::At(minute, Reading::DryBulb(t));
+        return Received::At(minute, Reading::DryBulb(BulbTemperature(n.keep())));
+    }
+    Received::Refused(MessageRefusal::OutsideLimits)
+}
+
+fn wet_bulb(minute: Minute, state: BulbState, n: Number) -> Received
+    ensures { λ r. ⌜ receivedAs r ≡ oneFigure limits.bulb 5 (minute .0) °C (wick state) (n .v) ⌝ }
+{
+    if BulbTemperature::holds(n) {
+        return Received::At(minute, Reading::WetBulb(state, BulbTemperature(n.keep())));
     }
     Received::Refused(MessageRefusal::OutsideLimits)
 }
@@ -184,8 +189,8 @@ fn kept(minute: Minute, m: Message, unit: BarometerUnit) -> Received
         Message::Wheelhouse(x) => wheelhouse(minute, tenths(x)),
         Message::ApparentWind(p) => apparent_wind(minute, tenths(p.speed), degrees(p.angle)),
         Message::ShipMotion(p) => ship_motion(minute, tenths(p.speed), degrees(p.angle)),
-        Message::DryBulb(x) => bulb(minute, false, tenths(x)),
-        Message::WetBulb(x) => bulb(minute, true, tenths(x)),
+        Message::DryBulb(x) => dry_bulb(minute, tenths(x)),
+        Message::WetBulb(state, x) => wet_bulb(minute, state, tenths(x)),
     }
 }
 

@@ -5,7 +5,7 @@ use mathlib.Core.Bool.{Bool, true, false, _&&_, cond}
 use Prim.Native.Nat.{ℕ, zero, suc, _+_, _*_, _≤_, _<_}
 use native.Mathlib.Omega.{arith}
 use native.Mathlib.Nat.{le-refl}
-use lib.Dec.{ltb}
+use lib.Dec.{T, ltb}
 use lib.IntN.{ℤ, pos, negsuc, negℤ, natAbs, subℕ, _+ℤ_, _-ℤ_, _*ℤ_}
 use lib.Signed.{leZ}
 use borrow.Author.Tests.{ltb-true, ltb-false, leb-true}
@@ -51,6 +51,11 @@ impossible e = absurd (omega arith)
 -- false is not true
 pub never : {A : Type 0} → false ≡ true → A
 never e = impossible (cc)
+
+-- what cannot be true is false
+pub fails : (b : Bool) → (T b → ⊥) → b ≡ false
+fails true n = absurd (n tt)
+fails false n = refl
 
 -- what holds of two things holds of whichever is picked
 pub either-way : {A : Type 0} (P : A → Type 0) (b : Bool) (x y : A) → P x → P y → P (cond b x y)

@@ -14,6 +14,11 @@ use Rattle.quantity.proofs.Hectopascals.changes.Reads as changes
 use Rattle.quantity.proofs.Millimetres.holds.Reads as millimetres
 use Rattle.quantity.proofs.WheelhouseTemperature.holds.Reads as wheelhouse-temperature
 use Rattle.quantity.proofs.BulbTemperature.holds.Reads as bulb-temperature
+use Rattle.quantity.proofs.BulbTemperature.freezes.Reads as freezes
+use Rattle.quantity.proofs.BulbTemperature.leaves_doubt.Reads as leaves-doubt
+use Rattle.quantity.proofs.BulbState.holds.Reads as is-state
+use Rattle.quantity.proofs.BulbState.numbered.Reads as state-numbered
+use Rattle.quantity.proofs.BulbState.number.Reads as state-number
 use Rattle.quantity.proofs.MetresPerSecond.holds.Reads as metres-per-second
 use Rattle.quantity.proofs.MetresPerSecond.blows.Reads as blows
 use Rattle.quantity.proofs.Knots.holds.Reads as knots
@@ -44,6 +49,21 @@ single-wheelhouse-temperature κs a r r′ s s′ p q = p ∙ sym q
 
 pub single-bulb-temperature : Single bulb-temperature.Post
 single-bulb-temperature κs a r r′ s s′ p q = p ∙ sym q
+
+pub single-freezes : Single freezes.Post
+single-freezes κs a r r′ s s′ p q = p ∙ sym q
+
+pub single-leaves-doubt : Single leaves-doubt.Post
+single-leaves-doubt κs a r r′ s s′ p q = p ∙ sym q
+
+pub single-is-state : Single is-state.Post
+single-is-state κs a r r′ s s′ p q = p ∙ sym q
+
+pub single-state-numbered : Single state-numbered.Post
+single-state-numbered κs a r r′ s s′ p q = p ∙ sym q
+
+pub single-state-number : Single state-number.Post
+single-state-number κs a r r′ s s′ p q = p ∙ sym q
 
 pub single-metres-per-second : Single metres-per-second.Post
 single-metres-per-second κs a r r′ s s′ p q = p ∙ sym q

@@ -44,6 +44,14 @@ wheelhouse = record { low = negℤ (pos 400); high = pos 600 }
 abbrev pub bulb : Limits
 bulb = record { low = negℤ (pos 400); high = pos 500 }
 
+-- a wet bulb under ice: "A second table is wanted from -40.0 to 0.0" (document 02, W3)
+abbrev pub frost : Limits
+frost = record { low = negℤ (pos 400); high = pos 0 }
+
+-- the air in which its state may be unknown: "above -10.0 and at most 0.0", in tenths -9.9 to 0.0
+abbrev pub doubtful : Limits
+doubtful = record { low = negℤ (pos 99); high = pos 0 }
+
 -- apparent wind: 0 to 75.0 m/s
 abbrev pub metresPerSecond : Limits
 metresPerSecond = record { low = pos 0; high = pos 750 }

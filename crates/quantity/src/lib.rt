@@ -4,7 +4,8 @@ ghost use mathlib.Core.Path.{_≡_};
 ghost use Prim.Native.Nat.{ℕ, _*_, _%_};
 ghost use lib.Dec.{leb};
 ghost use lib.IntN.{pos};
-ghost use Rattle.quantity.specs.Limits.{inside, hectopascals, recordedPressure, pressureChange, millimetres, pressureLimits, wheelhouse, bulb, metresPerSecond, trueWind, knots, degrees, lastMinute};
+ghost use Rattle.quantity.specs.Limits.{inside, hectopascals, recordedPressure, pressureChange, millimetres, pressureLimits, wheelhouse, bulb, frost, doubtful, metresPerSecond, trueWind, knots, degrees, lastMinute};
+ghost use Rattle.quantity.specs.States.{stateNumber, isState, stateOf};
 ghost use Rattle.quantity.specs.Convert.{inHectopascals, keptDirection, partsOfKnots, partsOfMetres};
 use number::Kept;
 use number::Number;
@@ -26,6 +27,14 @@ pub struct WheelhouseTemperature(pub Kept);
 
 // The temperature of the dry or the wet bulb, in tenths of °C.
 pub struct BulbTemperature(pub Kept);
+
+// What is on the wick of the wet bulb.
+pub enum BulbState {
+    Water,
+    Ice,
+    // nobody looked
+    Unknown,
+}
 
 // A speed in tenths of m/s.
 pub struct MetresPerSecond(pub u32);
@@ -134,6 +143,61 @@ impl BulbTemperature {
         ensures { λ r. ⌜ r ≡ inside bulb (n .v) ⌝ }
     {
         n.within(Self::LOW, Self::HIGH)
+    }
+
+    pub const FROST_HIGH: Number = Number { v: 0 };
+
+    // Whether n is a temperature of a wet bulb under ice.
+    pub fn freezes(n: Number) -> bool
+        ensures { λ r. ⌜ r ≡ inside frost (n .v) ⌝ }
+    {
+        n.within(Self::LOW, Self::FROST_HIGH)
+    }
+
+    pub const DOUBTFUL_LOW: Number = Number { v: -99 };
+
+    pub const DOUBTFUL_HIGH: Number = Number { v: 0 };
+
+    // Whether n is a temperature of the air in which the wet bulb's state may be unknown.
+    pub fn leaves_doubt(n: Number) -> bool
+        ensures { λ r. ⌜ r ≡ inside doubtful (n .v) ⌝ }
+    {
+        n.within(Self::DOUBTFUL_LOW, Self::DOUBTFUL_HIGH)
+    }
+}
+
+impl BulbState {
+    pub const LAST: u32 = 2;
+
+    // Whether n is the number of a state.
+    pub fn holds(n: u32) -> bool
+        ensures { λ r. ⌜ r ≡ isState n ⌝ }
+    {
+        n <= Self::LAST
+    }
+
+    // The state of a number; unknown where that is none.
+    pub fn numbered(n: u32) -> BulbState
+        ensures { λ r. ⌜ r ≡ stateOf n ⌝ }
+    {
+        if n == 0 {
+            return BulbState::Water;
+        }
+        if n == 1 {
+            return BulbState::Ice;
+        }
+        BulbState::Unknown
+    }
+
+    // Its number.
+    pub fn number(self) -> u32
+        ensures { λ r. ⌜ r ≡ stateNumber self ⌝ }
+    {
+        match self {
+            BulbState::Water => 0,
+            BulbState::Ice => 1,
+            BulbState::Unknown => 2,
+        }
     }
 }
 

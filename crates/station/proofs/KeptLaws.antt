@@ -21,7 +21,7 @@ use Rattle.message.proofs.Reading.{the-type}
 use Rattle.window.specs.Window as window
 use Rattle.window.specs.declared.Found.{Found}
 use Rattle.window.specs.declared.Found.the-variants.{Absent, Cell}
-use Rattle.cell.specs.Cells.{CHANNELS, unbiased, paired, secondIn, entryIn, numberIn, limitsOf, soundIn, Recall, absent, recalled, recalledAs}
+use Rattle.cell.specs.Cells.{CHANNELS, unbiased, paired, secondIn, entryIn, numberIn, limitsOf, soundBeside, soundIn, Recall, absent, recalled, recalledAs}
 use Rattle.cell.specs.declared.Recalled.{Recalled}
 use Rattle.cell.specs.declared.Recalled.the-variants.{Missing, Kept}
 use Rattle.block.specs.Words.{unitOf, windowOf}
@@ -91,14 +91,14 @@ module _ (s : List ℕ) (c m : ℕ) (low : c < CHANNELS) (there : isPresent (rec
   first-inside =
       let v = kept .cell in
       let is : numberOf (unitOf s) c (recallOf s c m) ≡ numberIn c v = ap (numberOf (unitOf s) c) (kept .is) ∙ first-number (unitOf s) c m v in
-      rw is (and-true (inside (limitsOf (unitOf s) c) (numberIn c v)) (not (paired c) || inside degrees (pos (v / 65536 % 65536))) (kept .sound) .0)
+      rw is (and-true (inside (limitsOf (unitOf s) c) (numberIn c v)) (soundBeside c v) (kept .sound) .0)
 
   -- So is the second, where there is one.
   pub second-inside : paired c ≡ true → inside degrees (pos (inDegrees (recallOf s c m))) ≡ true
   second-inside two =
       let v = kept .cell in
       let is : inDegrees (recallOf s c m) ≡ v / 65536 % 65536 = ap inDegrees (kept .is) ∙ rw two in
-      let other : (not (paired c) || inside degrees (pos (v / 65536 % 65536))) ≡ true = and-true (inside (limitsOf (unitOf s) c) (numberIn c v)) _ (kept .sound) .1 in
+      let other : soundBeside c v ≡ true = and-true (inside (limitsOf (unitOf s) c) (numberIn c v)) _ (kept .sound) .1 in
       rw is (rw two at other)
 
 -- What channel 0 keeps is a reading of the block's barometer.
@@ -121,7 +121,7 @@ case-channel t (reading.Wheelhouse x) = refl
 case-channel t (reading.ApparentWind v d) = refl
 case-channel t (reading.ShipMotion v d) = refl
 case-channel t (reading.DryBulb x) = refl
-case-channel t (reading.WetBulb x) = refl
+case-channel t (reading.WetBulb s x) = refl
 
 -- whether these cases are of other channels than c
 abbrev others : ℕ → List ℕ → Bool

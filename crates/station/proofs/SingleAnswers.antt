@@ -14,7 +14,7 @@ use Rattle.quantity.specs.declared.Hectopascals.{Hectopascals}
 use Rattle.quantity.specs.declared.Minute.{Minute}
 use Rattle.settings.proofs.SingleAnswers.{case-of, case-back}
 use Rattle.store.proofs.SingleAnswers.{hearing-of, hearing-back}
-use Rattle.vapour.proofs.TableExists.{the-table}
+use Rattle.vapour.proofs.TablesExist.{the-tables}
 use Rattle.wind.specs.declared.TrueWind.{TrueWind}
 use Rattle.wind.specs.declared.TrueWind.the-variants as blown
 use Rattle.wind.proofs.WindTheorems.{single-wind}
@@ -26,7 +26,7 @@ use Rattle.station.specs.Questions.{Asked, question, Reply, AnsweredBy, 
 use Rattle.station.specs.Questions as asked
 use Rattle.station.specs.Told.{Change, refusalOf, numberedAs, pressureAs, tendencyAs, windAs, humidityAs}
 use Rattle.station.specs.declared.QuestionRefusal.{QuestionRefusal}
-use Rattle.station.specs.declared.QuestionRefusal.the-variants.{MinuteTooLate, OutsideLimits, MissingReading, OutsideCertificate, WetAboveDry, NoThreeHours, TooDry, NoStore}
+use Rattle.station.specs.declared.QuestionRefusal.the-variants.{MinuteTooLate, OutsideLimits, MissingReading, OutsideCertificate, WetAboveDry, NoThreeHours, TooDry, TooWarmForIce, UnknownOutsideRange, AboveSaturation, NoStore}
 use Rattle.station.specs.declared.Refused.{Refused}
 use Rattle.station.specs.declared.Refused.the-variants.{Plain, OfMinute, OfReading}
 use Rattle.station.specs.declared.PressureAnswer.{PressureAnswer}
@@ -75,7 +75,10 @@ refusal n =
     (cond (eqb (n .number) 13) WetAboveDry
     (cond (eqb (n .number) 14) NoThreeHours
     (cond (eqb (n .number) 15) TooDry
-    NoStore))))))
+    (cond (eqb (n .number) 20) TooWarmForIce
+    (cond (eqb (n .number) 21) UnknownOutsideRange
+    (cond (eqb (n .number) 22) AboveSaturation
+    NoStore)))))))))
 
 refusal-back : (r : QuestionRefusal) → refusal (refusalOf r) ≡ r
 unfolding refusal
@@ -86,6 +89,9 @@ refusal-back (OutsideCertificate m) = refl
 refusal-back WetAboveDry = refl
 refusal-back NoThreeHours = refl
 refusal-back TooDry = refl
+refusal-back TooWarmForIce = refl
+refusal-back UnknownOutsideRange = refl
+refusal-back AboveSaturation = refl
 refusal-back NoStore = refl
 
 -- and so is the number itself
@@ -184,12 +190,12 @@ one-figure : (q : Asked) (S : Source) (m : ℕ) (x y : question q .Figures) → 
 one-figure asked.pressure S m x y v w = v ∙ sym w
 one-figure asked.tendency S m x y v w = one-change S m x y v w
 one-figure asked.wind S m x y v w = single-wind _ _ _ _ x y v w
-one-figure asked.humidity S m x y v w = one-humidity _ _ _ _ x y v w
+one-figure asked.humidity S m x y v w = one-humidity _ _ _ _ _ x y v w
 
 pub one-reply : (q : Asked) (before more : List (Test Numbered)) (S : Source) (m : ℕ) (r r′ : Reply q)
     → AnsweredBy q before more S m r → AnsweredBy q before more S m r′ → r ≡ r′
 one-reply q before more S m r r′ v w =
-    let t = the-table in
+    let t = the-tables in
     sym (answer-back q r)
     ∙ ap (answer-of q)
     (one-answer (before ++ question q .tests more (t .0) S m) (question q .Rule S m) (one-figure q S m) (question q .told r) (question q .told r′) (v (t .0) (t .1)) (w (t .0) (t .1)))

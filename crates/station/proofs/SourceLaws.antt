@@ -15,6 +15,7 @@ use Rattle.cell.specs.Cells.{Recall}
 use Rattle.store.specs.History.{isPresent}
 use Rattle.pressure.specs.Pressure.{outside, seaLevel, stationPressure, tenthsIn}
 use Rattle.pressure.proofs.PressureTheorems.{Alike, alike-outside, alike-sea-level, alike-station}
+use Rattle.vapour.specs.Vapour.{Tables}
 use Rattle.station.specs.Source.{Source, first, inCelsius, readingAt}
 use Rattle.station.specs.Questions.{Asked, question, Reply, isIn, reads, Answers, Tells, tooLate, noThreeHours, missingAt, outsideAt, seaLevelAt, stationAt, pressureTests, PressureRule, tendencyTests, TendencyRule, windTests, WindRule, humidityTests, HumidityRule}
 use Rattle.station.specs.Questions as asked
@@ -125,22 +126,22 @@ module _ (S S′ : Source) (m : ℕ) where
       (rw (missing-same S S′ m 2 wind, missing-same S S′ m 3 ship))
       (λ w is. rw (wind, ship) at is)
 
-  humidity-tells : Agree asked.humidity S S′ m → (table : ℤ → ℕ) (r : HumidityAnswer) (late : Bool) → tooLate m .holds ≡ late
-      → Answers (humidityTests [] table S m) (HumidityRule S m) (humidityAs r) → Answers (humidityTests [] table S′ m) (HumidityRule S′ m) (humidityAs r)
-  humidity-tells a table r true h = stopped _ _ _ _ _ (humidityAs r) h
-  humidity-tells a table r false h =
+  humidity-tells : Agree asked.humidity S S′ m → (tables : Tables) (r : HumidityAnswer) (late : Bool) → tooLate m .holds ≡ late
+      → Answers (humidityTests [] tables S m) (HumidityRule S m) (humidityAs r) → Answers (humidityTests [] tables S′ m) (HumidityRule S′ m) (humidityAs r)
+  humidity-tells a tables r true h = stopped _ _ _ _ _ (humidityAs r) h
+  humidity-tells a tables r false h =
       let now : isIn (question asked.humidity .minutes m) m ≡ true = rw h (its-own m []) in
       let p = a .kept 0 m (both refl now) in
       let dry = a .kept 4 m (both refl now) in
       let wet = a .kept 5 m (both refl now) in
       let station = station-same S S′ (a .barometer) m p in
-      carry (humidityTests [] table S m) (humidityTests [] table S′ m) (HumidityRule S m) (HumidityRule S′ m) (humidityAs r)
+      carry (humidityTests [] tables S m) (humidityTests [] tables S′ m) (HumidityRule S m) (HumidityRule S′ m) (humidityAs r)
       (rw (missing-same S S′ m 0 p, missing-same S S′ m 4 dry, missing-same S S′ m 5 wet, outside-same S S′ (a .barometer) m p, dry, wet, station, a .psychrometer))
       (λ x w. rw (dry, wet, station, a .psychrometer) at w)
 
 -- Where two sources agree on what a question reads, what the one allows the other allows.
 pub agree-tells : (q : Asked) (S S′ : Source) (m : ℕ) → Agree q S S′ m → (r : Reply q) → Tells q S m r → Tells q S′ m r
-agree-tells asked.pressure S S′ m a r w = λ table tabled. pressure-tells S S′ m a r (tooLate m .holds) refl (w table tabled)
-agree-tells asked.tendency S S′ m a r w = λ table tabled. tendency-tells S S′ m a r (tooLate m .holds) (noThreeHours m .holds) refl refl (w table tabled)
-agree-tells asked.wind S S′ m a r w = λ table tabled. wind-tells S S′ m a r (tooLate m .holds) refl (w table tabled)
-agree-tells asked.humidity S S′ m a r w = λ table tabled. humidity-tells S S′ m a table r (tooLate m .holds) refl (w table tabled)
+agree-tells asked.pressure S S′ m a r w = λ tables tabled. pressure-tells S S′ m a r (tooLate m .holds) refl (w tables tabled)
+agree-tells asked.tendency S S′ m a r w = λ tables tabled. tendency-tells S S′ m a r (tooLate m .holds) (noThreeHours m .holds) refl refl (w tables tabled)
+agree-tells asked.wind S S′ m a r w = λ tables tabled. wind-tells S S′ m a r (tooLate m .holds) refl (w tables tabled)
+agree-tells asked.humidity S S′ m a r w = λ tables tabled. humidity-tells S S′ m a tables r (tooLate m .holds) refl (w tables tabled)

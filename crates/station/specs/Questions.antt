@@ -5,18 +5,19 @@ use mathlib.Core.List.{List, [], _∷_, _++_}
 use Prim.Native.Nat.{ℕ, _-_}
 use lib.Dec.{eqb, ltb}
 use lib.IntN.{ℤ, _-ℤ_}
-use Rattle.number.specs.Refusal.{Numbered, Test, test, Answer, refused, given, answer}
+use Rattle.number.specs.Refusal.{Numbered, Test, test, plain, Answer, refused, given, answer}
 use Rattle.quantity.specs.Limits.{lastMinute, threeHours, inside, recordedPressure}
+use Rattle.quantity.specs.declared.BulbState.{BulbState}
 use Rattle.settings.specs.Settings as settings
 use Rattle.store.specs.Block.{noStore}
 use Rattle.store.specs.History.{isPresent}
 use Rattle.pressure.specs.Pressure.{outside, seaLevel, stationPressure}
-use Rattle.vapour.specs.Vapour.{IsTable}
+use Rattle.vapour.specs.Vapour.{Tables, AreTables}
 use Rattle.wind.specs.Answer.{IsWind}
 use Rattle.wind.specs.declared.TrueWind.{TrueWind}
-use Rattle.humidity.specs.Humidity.{vapourPressure, wetAboveDry, tooDry, IsHumidity}
+use Rattle.humidity.specs.Humidity.{vapourPressure, moistureTests, IsHumidity}
 use Rattle.humidity.specs.declared.HumidityFigures.{HumidityFigures}
-use Rattle.station.specs.Source.{Source, held, inCelsius, inMetresPerSecond, inKnots, inDegrees, readingAt}
+use Rattle.station.specs.Source.{Source, held, inCelsius, inMetresPerSecond, inKnots, inDegrees, stateIn, readingAt}
 use Rattle.station.specs.Told.{Change, pressureAs, tendencyAs, windAs, humidityAs}
 use Rattle.station.specs.declared.PressureAnswer.{PressureAnswer}
 use Rattle.station.specs.declared.TendencyAnswer.{TendencyAnswer}
@@ -87,30 +88,34 @@ WindRule S m w = IsWind (inDegrees (S .recall 3 m)) (inKnots (S .recall 3 m)) (i
 
 -- ---- humidity
 
--- Dry bulb, wet bulb, and the pressure at the station.
+-- Dry bulb, wet bulb with what is on its wick, and the pressure at the station.
 abbrev pub dryAt : Source → ℕ → ℤ
 dryAt S m = inCelsius (S .recall 4 m)
 
 abbrev pub wetAt : Source → ℕ → ℤ
 wetAt S m = inCelsius (S .recall 5 m)
 
+abbrev pub stateAt : Source → ℕ → BulbState
+stateAt S m = stateIn (S .recall 5 m)
+
 abbrev pub stationAt : Source → ℕ → ℤ
 stationAt S m = stationPressure (S .barometer) (readingAt S m)
 
--- e, with table(wet)
-abbrev pub vapourAt : (ℤ → ℕ) → Source → ℕ → ℤ
-vapourAt table S m = vapourPressure (table (wetAt S m)) (S .psychrometer) (stationAt S m) (dryAt S m) (wetAt S m)
+-- e, with the wet bulb's entries of both tables
+abbrev pub vapourAt : Tables → Source → ℕ → ℤ
+vapourAt tables S m =
+    vapourPressure (stateAt S m) (tables .overWater (wetAt S m)) (tables .overIce (wetAt S m)) (S .psychrometer) (stationAt S m) (dryAt S m) (wetAt S m)
 
--- Tests that document 01 does not have stand between 12 and 13.
-abbrev pub humidityTests : List (Test Numbered) → (ℤ → ℕ) → Source → ℕ → List (Test Numbered)
-humidityTests more table S m =
+-- 5, 11, 12, then 13, 20, 21, 22 and 15 as `humidity` has them. Tests that the documents do not have stand between 12 and 13.
+abbrev pub humidityTests : List (Test Numbered) → Tables → Source → ℕ → List (Test Numbered)
+humidityTests more tables S m =
     tooLate m
     ∷ missingAt S m 0 ∷ missingAt S m 4 ∷ missingAt S m 5
     ∷ outsideAt S m
-    ∷ (more ++ (test 13 [] (wetAboveDry (dryAt S m) (wetAt S m)) ∷ test 15 [] (tooDry (vapourAt table S m)) ∷ []))
+    ∷ (more ++ plain (moistureTests (stateAt S m) (dryAt S m) (wetAt S m) (tables .overWater (dryAt S m)) (vapourAt tables S m)))
 
 abbrev pub HumidityRule : Source → ℕ → HumidityFigures → Type 0
-HumidityRule S m h = IsHumidity (dryAt S m) (wetAt S m) (stationAt S m) (S .psychrometer) h
+HumidityRule S m h = IsHumidity (stateAt S m) (dryAt S m) (wetAt S m) (stationAt S m) (S .psychrometer) h
 
 -- 7: the station pressure or A is outside its limits, which happens only in a block that has the mark of a store and that
 -- no opening made (`never-foreign`).
@@ -122,14 +127,14 @@ foreign S m = test 7 [] (not (inside recordedPressure (stationAt S m) && inside 
 pub data Asked : Type 0 where
   pressure tendency wind humidity : Asked
 
--- What a question's function returns, and the figures that it tells; the tests in their order, with more that document 01 does not
--- have, and with a table of saturation; the rule of the figures; and, "Which channels feed what", the channels, and the minutes of
+-- What a question's function returns, and the figures that it tells; the tests in their order, with more that the documents do not
+-- have, and with tables of saturation; the rule of the figures; and, "Which channels feed what", the channels, and the minutes of
 -- them that it reads where it is asked at one: none where it is refused 5 or 14.
 pub record Question : Type 1 where
   pub Reply : Type 0
   pub Figures : Type 0
   pub told : Reply → Answer Numbered Figures
-  pub tests : List (Test Numbered) → (ℤ → ℕ) → Source → ℕ → List (Test Numbered)
+  pub tests : List (Test Numbered) → Tables → Source → ℕ → List (Test Numbered)
   pub Rule : Source → ℕ → Figures → Type 0
   pub channels : List ℕ
   pub minutes : ℕ → List ℕ
@@ -144,7 +149,7 @@ question pressure =
       Reply = PressureAnswer;
       Figures = ℤ;
       told = pressureAs;
-      tests = λ more table. pressureTests;
+      tests = λ more tables. pressureTests;
       Rule = PressureRule;
       channels = 0 ∷ 1 ∷ [];
       minutes = its;
@@ -154,7 +159,7 @@ question tendency =
       Reply = TendencyAnswer;
       Figures = Change;
       told = tendencyAs;
-      tests = λ more table. tendencyTests;
+      tests = λ more tables. tendencyTests;
       Rule = λ S m t. TendencyRule S m t;
       channels = 0 ∷ 1 ∷ [];
       minutes = λ m. cond (tooLate m .holds || noThreeHours m .holds) [] (m ∷ (m - threeHours) ∷ []);
@@ -164,7 +169,7 @@ question wind =
       Reply = WindAnswer;
       Figures = TrueWind;
       told = windAs;
-      tests = λ more table. windTests;
+      tests = λ more tables. windTests;
       Rule = WindRule;
       channels = 2 ∷ 3 ∷ [];
       minutes = its;
@@ -191,10 +196,10 @@ reads q m c j = isIn (question q .channels) c && isIn (question q .minutes m) j
 abbrev pub Reply : Asked → Type 0
 Reply q = question q .Reply
 
--- A question asked at minute m is answered by r: with document 01's tests, some before them and more among them, whatever the table.
+-- A question asked at minute m is answered by r: with the documents' tests, some before them and more among them, whatever the tables.
 abbrev pub AnsweredBy : (q : Asked) → List (Test Numbered) → List (Test Numbered) → Source → ℕ → Reply q → Type 0
 AnsweredBy q before more S m r =
-    (table : ℤ → ℕ) → IsTable table → Answers (before ++ question q .tests more table S m) (question q .Rule S m) (question q .told r)
+    (tables : Tables) → AreTables tables → Answers (before ++ question q .tests more tables S m) (question q .Rule S m) (question q .told r)
 
 -- What document 01 says that the answer is, of settings and messages heard.
 abbrev pub Tells : (q : Asked) → Source → ℕ → Reply q → Type 0

@@ -3,7 +3,8 @@ use mathlib.Core.List.{List}
 use Prim.Native.Nat.{ℕ}
 use lib.IntN.{ℤ, pos, natAbs}
 use Rattle.quantity.specs.Limits.{minutesBetween}
-use Rattle.message.specs.Receive.{Figure, none, byUnit, itself, nought}
+use Rattle.quantity.specs.declared.BulbState.{BulbState}
+use Rattle.message.specs.Receive.{Figure, none, byUnit, itself, nought, onWick}
 use Rattle.settings.specs.declared.Settings.{Settings}
 use Rattle.window.specs.Window.{absents}
 use Rattle.cell.specs.Cells.{Recall, absent, recalled}
@@ -65,6 +66,10 @@ inKnots x = natAbs (byUnit nought nought nought nought itself nought (pos 0) (fi
 
 abbrev pub inDegrees : Recall → ℕ
 inDegrees x = natAbs (byUnit nought nought nought nought nought itself (pos 0) (second x))
+
+-- What is on the wick of the wet bulb.
+abbrev pub stateIn : Recall → BulbState
+stateIn x = onWick (second x)
 
 -- What the barometer shows, in tenths of its unit.
 abbrev pub readingAt : Source → ℕ → ℤ

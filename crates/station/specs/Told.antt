@@ -8,7 +8,7 @@ use Rattle.wind.specs.declared.TrueWind.{TrueWind}
 use Rattle.wind.specs.declared.TrueWind.the-variants.{Blows}
 use Rattle.humidity.specs.declared.HumidityFigures.{HumidityFigures}
 use Rattle.station.specs.declared.QuestionRefusal.{QuestionRefusal}
-use Rattle.station.specs.declared.QuestionRefusal.the-variants.{MinuteTooLate, OutsideLimits, MissingReading, OutsideCertificate, WetAboveDry, NoThreeHours, TooDry, NoStore}
+use Rattle.station.specs.declared.QuestionRefusal.the-variants.{MinuteTooLate, OutsideLimits, MissingReading, OutsideCertificate, WetAboveDry, NoThreeHours, TooDry, TooWarmForIce, UnknownOutsideRange, AboveSaturation, NoStore}
 use Rattle.station.specs.declared.Refused.{Refused}
 use Rattle.station.specs.declared.Refused.the-variants.{Plain, OfMinute, OfReading}
 use Rattle.station.specs.declared.PressureAnswer.{PressureAnswer}
@@ -28,6 +28,9 @@ refusalOf (OutsideCertificate m) = numbered 12 (m .0 ∷ [])
 refusalOf WetAboveDry = numbered 13 []
 refusalOf NoThreeHours = numbered 14 []
 refusalOf TooDry = numbered 15 []
+refusalOf TooWarmForIce = numbered 20 []
+refusalOf UnknownOutsideRange = numbered 21 []
+refusalOf AboveSaturation = numbered 22 []
 refusalOf NoStore = numbered NO_STORE []
 
 -- The same as a number with what it also returns.

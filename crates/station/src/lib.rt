@@ -41,6 +41,12 @@ pub enum QuestionRefusal {
     NoThreeHours,
     // 15
     TooDry,
+    // 20
+    TooWarmForIce,
+    // 21
+    UnknownOutsideRange,
+    // 22
+    AboveSaturation,
     // none of document 01's: the block is no store
     NoStore,
 }
@@ -119,6 +125,9 @@ pub fn number(r: QuestionRefusal) -> Refused
         QuestionRefusal::WetAboveDry => Refused::Plain(13),
         QuestionRefusal::NoThreeHours => Refused::Plain(14),
         QuestionRefusal::TooDry => Refused::Plain(15),
+        QuestionRefusal::TooWarmForIce => Refused::Plain(20),
+        QuestionRefusal::UnknownOutsideRange => Refused::Plain(21),
+        QuestionRefusal::AboveSaturation => Refused::Plain(22),
         QuestionRefusal::NoStore => Refused::Plain(NO_STORE),
     }
 }
@@ -267,17 +276,24 @@ pub fn humidity(store: &Store, minute: u32) -> HumidityAnswer
     let Reading::DryBulb(dry) = in_air else {
         return HumidityAnswer::Refused(QuestionRefusal::MissingReading(4, Minute(minute)));
     };
-    let Recalled::Kept(in_water) = store::recall(store, 5, minute) else {
+    let Recalled::Kept(on_wick) = store::recall(store, 5, minute) else {
         return HumidityAnswer::Refused(QuestionRefusal::MissingReading(5, Minute(minute)));
     };
-    let Reading::WetBulb(wet) = in_water else {
+    let Reading::WetBulb(state, wet) = on_wick else {
         return HumidityAnswer::Refused(QuestionRefusal::MissingReading(5, Minute(minute)));
     };
     match pressure::station_pressure(store, reading) {
         WorkedPressure::Given(p) => {
-            match humidity::humidity(dry, wet, p, block::psychrometer(store)) {
+            match humidity::humidity(state, dry, wet, p, block::psychrometer(store)) {
                 Moisture::Given(h) => HumidityAnswer::Given(h),
                 Moisture::WetAboveDry => HumidityAnswer::Refused(QuestionRefusal::WetAboveDry),
+                Moisture::TooWarmForIce => HumidityAnswer::Refused(QuestionRefusal::TooWarmForIce),
+                Moisture::UnknownOutsideRange => {
+                    HumidityAnswer::Refused(QuestionRefusal::UnknownOutsideRange)
+                }
+                Moisture::AboveSaturation => {
+                    HumidityAnswer::Refused(QuestionRefusal::AboveSaturation)
+                }
                 Moisture::TooDry => HumidityAnswer::Refused(QuestionRefusal::TooDry),
                 Moisture::OutsideLimits => HumidityAnswer::Refused(QuestionRefusal::OutsideLimits),
             }

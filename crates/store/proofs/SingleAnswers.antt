@@ -8,7 +8,7 @@ use Rattle.number.specs.Single.{Single, SingleLeft}
 use Rattle.number.specs.Refusal.{Numbered, Answer, refused, given}
 use Rattle.wire.proofs.SingleAnswers.{refusal}
 use Rattle.wire.specs.declared.MessageRefusal.{MessageRefusal}
-use Rattle.wire.specs.declared.MessageRefusal.the-variants.{NotSixteenBytes, NoSuchChannel, ByteNotZero, WetBulbNotWater, MinuteTooLate, NotFinite, OutsideLimits}
+use Rattle.wire.specs.declared.MessageRefusal.the-variants.{NotSixteenBytes, NoSuchChannel, ByteNotZero, NoSuchState, MinuteTooLate, NotFinite, OutsideLimits}
 use Rattle.settings.proofs.SingleAnswers.{case-of, case-back}
 use Rattle.cell.proofs.SingleAnswers.{recall-of, recall-back}
 use Rattle.block.specs.Layout.{NO_STORE}
@@ -54,7 +54,7 @@ hearing-back (Refused r) = go r
     go NotSixteenBytes = refl
     go NoSuchChannel = refl
     go ByteNotZero = refl
-    go WetBulbNotWater = refl
+    go NoSuchState = refl
     go MinuteTooLate = refl
     go NotFinite = refl
     go OutsideLimits = refl

@@ -77,7 +77,7 @@ fn channel_of(r: Reading) -> usize
         Reading::ApparentWind(_, _) => 2,
         Reading::ShipMotion(_, _) => 3,
         Reading::DryBulb(_) => 4,
-        Reading::WetBulb(_) => 5,
+        Reading::WetBulb(_, _) => 5,
     }
 }
 

@@ -7,4 +7,4 @@ pub mod DewLaws
 pub mod TableLaws
 pub mod RangeLaws
 pub mod SingleAnswers
-pub mod TableExists
+pub mod TablesExist

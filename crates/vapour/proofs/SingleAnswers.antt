@@ -7,16 +7,19 @@ use Rattle.number.specs.Single.{Single}
 use Rattle.number.specs.declared.Kept.{Kept}
 use Rattle.number.proofs.SingleAnswers.{kept-by}
 use Rattle.number.proofs.Sizes.{impossible}
-use Rattle.vapour.specs.Vapour.{AreSaturations, IsDew, water}
+use Rattle.vapour.specs.Vapour.{AreSaturations, IsOverIce, IsDew, water, ice}
 use Rattle.vapour.specs.declared.VapourPressure.{VapourPressure}
 use Rattle.vapour.specs.declared.DewTemperature.{DewTemperature}
 use Rattle.vapour.specs.declared.Saturations.{Saturations}
 use Rattle.vapour.specs.declared.Saturations.the-variants.{Entries, OutsideTable}
+use Rattle.vapour.specs.declared.OverIce.{OverIce}
+use Rattle.vapour.specs.declared.OverIce.the-variants.{Entry, OutsideIceTable}
 use Rattle.vapour.specs.declared.Dew.{Dew}
 use Rattle.vapour.specs.declared.Dew.the-variants.{Point, OutsideRange}
 use Rattle.vapour.proofs.SaturationLaws.{near-one}
 use Rattle.vapour.proofs.DewLaws.{dew-one}
 use Rattle.vapour.proofs.saturation.Reads as saturation
+use Rattle.vapour.proofs.saturation_over_ice.Reads as over-ice
 use Rattle.vapour.proofs.dew_point.Reads as dew-point
 use Rattle.vapour.proofs.VapourPressure.holds.Reads as vapour-pressure
 use Rattle.vapour.proofs.relative_humidity.Reads as relative-humidity
@@ -46,6 +49,12 @@ one-saturation dry wet (Entries d w) OutsideTable p q = absurd (not-both (p .0) 
 one-saturation dry wet OutsideTable (Entries d w) p q = absurd (not-both (q .0) p)
 one-saturation dry wet OutsideTable OutsideTable p q = refl
 
+pub one-over-ice : (t : ℤ) (r r′ : OverIce) → IsOverIce t r → IsOverIce t r′ → r ≡ r′
+one-over-ice t (Entry e) (Entry e′) p q = ap Entry (pressure-by (near-one ice t (e .0) (e′ .0) (p .1) (q .1)))
+one-over-ice t (Entry e) OutsideIceTable p q = absurd (not-both (p .0) q)
+one-over-ice t OutsideIceTable (Entry e) p q = absurd (not-both (q .0) p)
+one-over-ice t OutsideIceTable OutsideIceTable p q = refl
+
 pub one-dew : (e : ℕ) (r r′ : Dew) → IsDew e r → IsDew e r′ → r ≡ r′
 one-dew e (Point t) (Point t′) p q = ap Point (dew-by (dew-one e (t .0 .v) (t′ .0 .v) (p .1) (q .1)))
 one-dew e (Point t) OutsideRange p q = absurd (not-both (p .0) q)
@@ -54,6 +63,9 @@ one-dew e OutsideRange OutsideRange p q = refl
 
 pub single-saturation : Single saturation.Post
 single-saturation κs a r r′ s s′ p q = one-saturation _ _ r r′ p q
+
+pub single-over-ice : Single over-ice.Post
+single-over-ice κs a r r′ s s′ p q = one-over-ice _ r r′ p q
 
 pub single-dew-point : Single dew-point.Post
 single-dew-point κs a r r′ s s′ p q = one-dew _ r r′ p q

@@ -8,14 +8,15 @@ use lib.Dec.{T, leb}
 use lib.IntN.{ℤ, pos, negsuc, natAbs, _+ℤ_}
 use lib.ListN.{length, getD}
 use lib.Signed.{leZ}
-use borrow.Author.Tests.{leb-true, le-ltb, lt-ltb}
+use borrow.Author.Tests.{leb-true, le-leb, le-ltb, lt-ltb}
 use Rattle.number.proofs.Sizes.{and-true}
-use Rattle.quantity.specs.Limits.{inside, bulb}
-use Rattle.vapour.specs.Vapour.{Near, AreSaturations, lowestVapour, highestVapour, water}
+use Rattle.quantity.specs.Limits.{inside, bulb, frost}
+use Rattle.vapour.specs.Vapour.{Formula, Near, AreSaturations, lowestVapour, highestVapour, water}
 use Rattle.vapour.specs.Tables.{tenth, EntriesAt, Least}
 use Rattle.vapour.specs.declared.Saturations.{Saturations}
 use Rattle.vapour.specs.declared.Saturations.the-variants.{Entries, OutsideTable}
 use Rattle.vapour.proofs.EachEntry.{every, at}
+use Rattle.vapour.proofs.UpDown.{up, down, of-difference}
 use Rattle.vapour.proofs.SaturationLaws.{near-test, near-by-test, table-rises}
 use Rattle.vapour.proofs.DewLaws.{least-test, least-by-test}
 
@@ -27,13 +28,14 @@ pub entry-is : (xs : List ℕ) (k : ℕ) → getD xs k 0 ≡ entry xs k
 unfolding entry
 entry-is xs k = refl
 
-unfoldable pub entry-test : ℕ → ℕ → Bool
+unfoldable pub entry-test : Formula → ℕ → ℕ → Bool
 unfolding near-test
-entry-test i r = near-test water (tenth i) r
+entry-test f i r = near-test f (tenth i) r
 
-pub near-at : (xs : List ℕ) (k : ℕ) → T (every entry-test 0 xs) → k < length xs → Near water (tenth k) (entry xs k)
+-- whatever the formula
+pub near-at : (f : Formula) (xs : List ℕ) (k : ℕ) → T (every (entry-test f) 0 xs) → k < length xs → Near f (tenth k) (entry xs k)
 unfolding entry entry-test
-near-at xs k passed h = near-by-test water (tenth k) (getD xs k 0) (at entry-test xs passed k h)
+near-at f xs k passed h = near-by-test f (tenth k) (getD xs k 0) (at (entry-test f) xs passed k h)
 
 pub least-at : (xs : List ℕ) (k : ℕ) → T (every least-test 0 xs) → k < length xs → Least k (entry xs k)
 unfolding entry
@@ -64,6 +66,17 @@ place-is (negsuc n) h =
     let l = leb-true n 399 (and-true (leb n 399) true h .0) in
     let e : negsuc n +ℤ pos 400 ≡ pos (400 - suc n) = simp (le-ltb 400 (suc n) (omega arith)) in
     rw e (omega arith, simp (lt-ltb (400 - suc n) 400 (omega arith)) (ap negsuc (omega arith)))
+
+-- a bulb under ice lies within a bulb's limits, and its place within the table over ice
+pub frost-bulb : (t : ℤ) → inside frost t ≡ true → inside bulb t ≡ true
+frost-bulb (pos n) h = let l = leb-true n 0 (and-true true (leb n 0) h .1) in le-leb n 500 (omega arith)
+frost-bulb (negsuc n) h = h
+
+pub frost-place : (i : ℕ) (t : ℤ) → tenth i ≡ t → inside frost t ≡ true → i < 401
+frost-place i (pos n) e h =
+    let l = leb-true n 0 (and-true true (leb n 0) h .1) in
+    omega (arith, of-difference i 400, ap up e, ap down e)
+frost-place i (negsuc n) e h = omega (arith, of-difference i 400, ap up e, ap down e)
 
 -- the entries at the places of both bulbs are the bulbs' saturations
 pub entries-are : (dry wet : ℤ) (i j : ℕ) (r : Saturations) →

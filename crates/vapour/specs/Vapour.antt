@@ -6,10 +6,12 @@ use Prim.Native.Nat.{ℕ, suc, _+_, _*_, _-_}
 use lib.Dec.{leb, eqb}
 use lib.IntN.{ℤ, pos, negsuc, _*ℤ_, _+ℤ_, _-ℤ_}
 use Rattle.number.specs.Round.{nearest}
-use Rattle.quantity.specs.Limits.{inside, bulb}
+use Rattle.quantity.specs.Limits.{Limits, inside, bulb, frost}
 use Rattle.vapour.specs.Exp.{BelowExp, BelowReciprocal}
 use Rattle.vapour.specs.declared.Saturations.{Saturations}
 use Rattle.vapour.specs.declared.Saturations.the-variants.{Entries, OutsideTable}
+use Rattle.vapour.specs.declared.OverIce.{OverIce}
+use Rattle.vapour.specs.declared.OverIce.the-variants.{Entry, OutsideIceTable}
 use Rattle.vapour.specs.declared.Dew.{Dew}
 use Rattle.vapour.specs.declared.Dew.the-variants.{Point, OutsideRange}
 
@@ -24,9 +26,13 @@ pub record Formula : Type 0 where
 abbrev pub water : Formula
 water = record { scale = 61121; factor = 175043; offset = 241200 }
 
+-- "State 1 is ice: saturation by formula (14a)" of 004: 6.1121 exp(22.4893 t / (272.881 + t)) hPa
+abbrev pub ice : Formula
+ice = record { scale = 61121; factor = 224893; offset = 272881 }
+
 -- u / v hundredths of hPa lie below the exact saturation at t thousandths of a degree. From 0 up the exponent is
 -- factor · m / (10000 · (offset + m)), under 0 minus factor · m / (10000 · (offset - m)); u / v is compared over scale / 100.
--- It means the formula above -offset (-241.2 °C); from there down nothing lies below, as if saturation were 0.
+-- It means the formula above -offset (-241.2 °C over water, -272.881 over ice); from there down nothing lies below, as if saturation were 0.
 unfoldable pub Below : Formula → ℤ → ℕ → ℕ → Type 0
 Below f (pos m) u v = BelowExp (f .factor * m) (10000 * (f .offset + m)) (100 * u) (f .scale * v)
 Below f (negsuc n) u v = BelowReciprocal (f .factor * suc n) (10000 * (f .offset - suc n)) (100 * u) (f .scale * v)
@@ -41,15 +47,29 @@ pub record DewPoint (e : ℕ) (t : ℤ) : Type 0 where
   pub reached : Below water (pos 100 *ℤ t -ℤ pos 50) e 1 → ⊥
   pub short : Below water (pos 100 *ℤ t +ℤ pos 50) e 1
 
--- "One table for -40.0 to 50.0 °C": both bulbs have their entries, or one of them lies outside.
+-- "One table for -40.0 to 50.0 °C", over water: both bulbs have their entries, or one of them lies outside.
 abbrev pub AreSaturations : ℤ → ℤ → Saturations → Type 0
 AreSaturations dry wet (Entries d w) =
     ((inside bulb dry && inside bulb wet) ≡ true) × Near water dry (d .0) × Near water wet (w .0)
 AreSaturations dry wet OutsideTable = (inside bulb dry && inside bulb wet) ≡ false
 
--- "One table for -40.0 to 50.0 °C by tenths": any function that gives each tenth its entry. There is one (proofs/TableExists).
-abbrev pub IsTable : (ℤ → ℕ) → Type 0
-IsTable table = (t : ℤ) → inside bulb t ≡ true → Near water t (table t)
+-- "A second table is wanted from -40.0 to 0.0": a bulb has its entry, or lies outside.
+abbrev pub IsOverIce : ℤ → OverIce → Type 0
+IsOverIce t (Entry e) = (inside frost t ≡ true) × Near ice t (e .0)
+IsOverIce t OutsideIceTable = inside frost t ≡ false
+
+-- A table by tenths within limits: any function that gives each tenth its entry.
+abbrev pub IsTable : Formula → Limits → (ℤ → ℕ) → Type 0
+IsTable f limits table = (t : ℤ) → inside limits t ≡ true → Near f t (table t)
+
+-- "One table for -40.0 to 50.0 °C by tenths", and the second over ice. There are such (proofs/TablesExist).
+pub record Tables : Type 0 where
+  pub overWater : ℤ → ℕ
+  pub overIce : ℤ → ℕ
+
+pub record AreTables (tables : Tables) : Type 0 where
+  pub of-water : IsTable water bulb (tables .overWater)
+  pub of-ice : IsTable ice frost (tables .overIce)
 
 -- A watch file's range of e and of saturation, which is the table's: "e 19 to saturation, saturation 19 to 12345".
 abbrev pub lowestVapour : ℕ

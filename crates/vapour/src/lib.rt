@@ -1,13 +1,14 @@
-// Saturation of water vapour over water, the dew point, and what vapour pressure and saturation come to.
+// Saturation of water vapour over water and over ice, the dew point, and what vapour pressure and saturation come to.
 ghost use mathlib.Core.Path.{_≡_};
 ghost use mathlib.Core.Bool.{true};
 ghost use Prim.Native.Nat.{_<_, _≤_};
 ghost use Rattle.quantity.specs.Limits.{inside, bulb};
-ghost use Rattle.vapour.specs.Vapour.{AreSaturations, lowestVapour, highestVapour, recordedVapour, IsDew, DewPoint, relativeHumidity, vapourDeficit};
+ghost use Rattle.vapour.specs.Vapour.{Near, ice, AreSaturations, IsOverIce, lowestVapour, highestVapour, recordedVapour, IsDew, DewPoint, relativeHumidity, vapourDeficit};
 ghost use Rattle.vapour.specs.Tables.{tenth, EntriesAt, Thresholds};
 use number::Kept;
 use number::Number;
 use quantity::BulbTemperature;
+use tables::ICE_SATURATION;
 use tables::SATURATION;
 use tables::THRESHOLDS;
 
@@ -32,12 +33,19 @@ impl VapourPressure {
 // A dew point, in tenths of °C.
 pub struct DewTemperature(pub Kept);
 
-// What the table says of both bulbs.
+// What the table over water says of both bulbs.
 pub enum Saturations {
     // The entry of the dry bulb, and that of the wet.
     Entries(VapourPressure, VapourPressure),
     // One of them is outside the table.
     OutsideTable,
+}
+
+// What the table over ice says of a bulb.
+pub enum OverIce {
+    Entry(VapourPressure),
+    // The bulb is outside the table.
+    OutsideIceTable,
 }
 
 // What the dew point comes to.
@@ -47,7 +55,7 @@ pub enum Dew {
     OutsideRange,
 }
 
-// The place of t in the table.
+// The place of t in a table.
 fn place(t: Number) -> usize
     requires { ⌜ inside bulb (t .v) ≡ true ⌝ }
     ensures { λ r. ⌜ (r < 901) × (tenth r ≡ t .v) ⌝ }
@@ -74,7 +82,7 @@ fn entries(i: usize, j: usize) -> Saturations
     Saturations::Entries(d, w)
 }
 
-// Saturation at the dry and at the wet bulb, where both lie within the table.
+// Saturation over water at the dry and at the wet bulb, where both lie within the table.
 pub fn saturation(dry: BulbTemperature, wet: BulbTemperature) -> Saturations
     ensures { λ r. ⌜ AreSaturations (dry .0 .v) (wet .0 .v) r ⌝ }
 {
@@ -87,6 +95,26 @@ pub fn saturation(dry: BulbTemperature, wet: BulbTemperature) -> Saturations
         return Saturations::OutsideTable;
     }
     entries(place(d), place(w))
+}
+
+// The entry at a place of the table over ice.
+fn entry_over_ice(i: usize) -> VapourPressure
+    requires { ⌜ i < 401 ⌝ }
+    ensures { λ r. ⌜ Near ice (tenth i) (r .0) ⌝ }
+{
+    let table = ICE_SATURATION;
+    hundredths(table[i])
+}
+
+// Saturation over ice at a bulb, where it lies within the table.
+pub fn saturation_over_ice(bulb: BulbTemperature) -> OverIce
+    ensures { λ r. ⌜ IsOverIce (bulb .0 .v) r ⌝ }
+{
+    let t = bulb.0.number();
+    if !BulbTemperature::freezes(t) {
+        return OverIce::OutsideIceTable;
+    }
+    OverIce::Entry(entry_over_ice(place(t)))
 }
 
 // The place of the dew point of e: the last place whose threshold e reaches, by bisection.

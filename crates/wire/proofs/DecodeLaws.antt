@@ -9,7 +9,8 @@ use lib.Ieee.{Float}
 use lib.Ieee.Fits.{and-l, and-r}
 use Rattle.number.specs.Refusal.{Answer, given, refused, answer}
 use Rattle.number.proofs.RefusalLaws.{given-then, given-is}
-use Rattle.wire.specs.Bytes.{channel, minute, first, second}
+use Rattle.quantity.specs.States.{stateOf}
+use Rattle.wire.specs.Bytes.{channel, state, minute, first, second}
 use Rattle.wire.specs.Finite.{isFinite, Finite}
 use Rattle.wire.specs.Kinds.{kind, pair, Sound}
 use Rattle.wire.specs.Decode.{wireTests, message, Sent, sent, decoded}
@@ -20,13 +21,13 @@ pick-sound : (b : Bool) (k l : Message) → Sound k → Sound l → Sound (cond 
 pick-sound true k l s t = s
 pick-sound false k l s t = t
 
-kind-sound : (n : ℕ) (x y : Float) → Finite x → Finite y → Sound (kind n x y)
-kind-sound n x y f g =
+kind-sound : (n s : ℕ) (x y : Float) → Finite x → Finite y → Sound (kind n s x y)
+kind-sound n s x y f g =
     pick-sound (eqb n 0) (Barometer x) _ f
     (pick-sound (eqb n 1) (Wheelhouse x) _ f
     (pick-sound (eqb n 2) (ApparentWind (pair x y)) _ (f, g)
     (pick-sound (eqb n 3) (ShipMotion (pair x y)) _ (f, g)
-    (pick-sound (eqb n 4) (DryBulb x) (WetBulb x) f f))))
+    (pick-sound (eqb n 4) (DryBulb x) (WetBulb (stateOf s) x) f f))))
 
 finite-both : (b : Bool) → (T (not b) → ⊥) → T b
 finite-both true n = tt
@@ -47,4 +48,4 @@ module _ (m : List ℕ) (s : Sent) (e : decoded m ≡ given s) where
   pub decoded-sound : Sound (s .message)
   decoded-sound =
       subst (λ (z : Sent). Sound (z .message)) decoded-is
-      (kind-sound (channel m) (first m) (second m) (and-l (isFinite (first m)) (isFinite (second m)) both) (and-r (isFinite (first m)) (isFinite (second m)) both))
+      (kind-sound (channel m) (state m) (first m) (second m) (and-l (isFinite (first m)) (isFinite (second m)) both) (and-r (isFinite (first m)) (isFinite (second m)) both))

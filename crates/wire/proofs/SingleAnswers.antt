@@ -8,7 +8,7 @@ use Rattle.number.specs.Single.{Single}
 use Rattle.number.specs.Refusal.{Answer, refused, given}
 use Rattle.wire.specs.Decode.{Sent, numberOf, decodedAs}
 use Rattle.wire.specs.declared.MessageRefusal.{MessageRefusal}
-use Rattle.wire.specs.declared.MessageRefusal.the-variants.{NotSixteenBytes, NoSuchChannel, ByteNotZero, WetBulbNotWater, MinuteTooLate, NotFinite, OutsideLimits}
+use Rattle.wire.specs.declared.MessageRefusal.the-variants.{NotSixteenBytes, NoSuchChannel, ByteNotZero, NoSuchState, MinuteTooLate, NotFinite, OutsideLimits}
 use Rattle.wire.specs.declared.Decoded.{Decoded}
 use Rattle.wire.specs.declared.Decoded.the-variants as decoding
 use Rattle.wire.proofs.number.Reads as number
@@ -24,7 +24,7 @@ refusal n =
     cond (eqb n 1) NotSixteenBytes
     (cond (eqb n 2) NoSuchChannel
     (cond (eqb n 3) ByteNotZero
-    (cond (eqb n 4) WetBulbNotWater
+    (cond (eqb n 4) NoSuchState
     (cond (eqb n 5) MinuteTooLate
     (cond (eqb n 6) NotFinite
     OutsideLimits)))))
@@ -33,7 +33,7 @@ pub refusal-back : (r : MessageRefusal) → refusal (numberOf r) ≡ r
 refusal-back NotSixteenBytes = refl
 refusal-back NoSuchChannel = refl
 refusal-back ByteNotZero = refl
-refusal-back WetBulbNotWater = refl
+refusal-back NoSuchState = refl
 refusal-back MinuteTooLate = refl
 refusal-back NotFinite = refl
 refusal-back OutsideLimits = refl

@@ -5,6 +5,7 @@ use Prim.Native.Nat.{ℕ}
 use lib.Dec.{eqb}
 use lib.ListN.{getD}
 use lib.Ieee.{Float, binary32, ofBits}
+use Rattle.quantity.specs.States.{isState}
 use Rattle.octets.specs.Bytes.{le32}
 
 abbrev pub byte : List ℕ → ℕ → ℕ
@@ -40,6 +41,6 @@ stray m =
     || not (wetBulb m || eqb (state m) 0)
     || not (paired m || eqb (le32 m 12) 0)
 
--- "wet-bulb state not 0, water"
-abbrev pub notWater : List ℕ → Bool
-notWater m = wetBulb m && not (eqb (state m) 0)
+-- "4 now means a state above 2": of the wet bulb, which alone has one
+abbrev pub noState : List ℕ → Bool
+noState m = wetBulb m && not (isState (state m))

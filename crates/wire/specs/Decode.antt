@@ -6,11 +6,11 @@ use lib.Dec.{eqb, ltb, leb}
 use lib.ListN.{length}
 use Rattle.number.specs.Refusal.{Test, Answer, refused, given, answer}
 use Rattle.quantity.specs.Limits.{lastMinute}
-use Rattle.wire.specs.Bytes.{channel, minute, first, second, stray, notWater}
+use Rattle.wire.specs.Bytes.{channel, minute, first, second, state, stray, noState}
 use Rattle.wire.specs.Finite.{isFinite}
 use Rattle.wire.specs.Kinds.{kind}
 use Rattle.wire.specs.declared.MessageRefusal.{MessageRefusal}
-use Rattle.wire.specs.declared.MessageRefusal.the-variants.{NotSixteenBytes, NoSuchChannel, ByteNotZero, WetBulbNotWater, MinuteTooLate, NotFinite, OutsideLimits}
+use Rattle.wire.specs.declared.MessageRefusal.the-variants.{NotSixteenBytes, NoSuchChannel, ByteNotZero, NoSuchState, MinuteTooLate, NotFinite, OutsideLimits}
 use Rattle.wire.specs.declared.Message.{Message}
 use Rattle.wire.specs.declared.Decoded.{Decoded}
 use Rattle.wire.specs.declared.Decoded.the-variants.{Refused, At}
@@ -24,14 +24,14 @@ wireTests m =
     test 1 (not (eqb (length m) 16))
     ∷ test 2 (ltb 5 (channel m))
     ∷ test 3 (stray m)
-    ∷ test 4 (notWater m)
+    ∷ test 4 (noState m)
     ∷ test 5 (not (leb (minute m) lastMinute))
     ∷ test 6 (not (isFinite (first m) && isFinite (second m)))
     ∷ []
 
--- The kind that the bytes name, with its values.
+-- The kind that the bytes name, with its values and, of the wet bulb, its state.
 abbrev pub message : List ℕ → Message
-message m = kind (channel m) (first m) (second m)
+message m = kind (channel m) (state m) (first m) (second m)
 
 -- A message and its minute.
 pub record Sent : Type 0 where
@@ -50,7 +50,7 @@ abbrev pub numberOf : MessageRefusal → ℕ
 numberOf NotSixteenBytes = 1
 numberOf NoSuchChannel = 2
 numberOf ByteNotZero = 3
-numberOf WetBulbNotWater = 4
+numberOf NoSuchState = 4
 numberOf MinuteTooLate = 5
 numberOf NotFinite = 6
 numberOf OutsideLimits = 7

@@ -4,10 +4,11 @@ ghost use Prim.Native.Nat.{_+_, _≤_};
 ghost use lib.ListN.{length};
 ghost use lib.Ieee.{binary32, ofBits};
 ghost use Rattle.octets.specs.Bytes.{le32};
-ghost use Rattle.wire.specs.Bytes.{stray, notWater};
+ghost use Rattle.wire.specs.Bytes.{stray, noState};
 ghost use Rattle.wire.specs.Finite.{isFinite, Finite};
 ghost use Rattle.wire.specs.Kinds.{kind};
 ghost use Rattle.wire.specs.Decode.{numberOf, decoded, decodedAs};
+use quantity::BulbState;
 use quantity::Minute;
 
 // Why a message is refused, in the order in which it is tested.
@@ -19,7 +20,7 @@ pub enum MessageRefusal {
     // 3
     ByteNotZero,
     // 4
-    WetBulbNotWater,
+    NoSuchState,
     // 5
     MinuteTooLate,
     // 6
@@ -36,7 +37,7 @@ pub fn number(r: MessageRefusal) -> u32
         MessageRefusal::NotSixteenBytes => 1,
         MessageRefusal::NoSuchChannel => 2,
         MessageRefusal::ByteNotZero => 3,
-        MessageRefusal::WetBulbNotWater => 4,
+        MessageRefusal::NoSuchState => 4,
         MessageRefusal::MinuteTooLate => 5,
         MessageRefusal::NotFinite => 6,
         MessageRefusal::OutsideLimits => 7,
@@ -49,14 +50,14 @@ pub struct Pair {
     pub angle: f32,
 }
 
-// A decoded message: one of six kinds, each with its own binary32 values.
+// A decoded message: one of six kinds, each with its own binary32 values, and the wet bulb's with its state.
 pub enum Message {
     Barometer(f32),
     Wheelhouse(f32),
     ApparentWind(Pair),
     ShipMotion(Pair),
     DryBulb(f32),
-    WetBulb(f32),
+    WetBulb(BulbState, f32),
 }
 
 // What the bytes of a message say, before its values are rounded.
@@ -102,13 +103,13 @@ fn has_stray(bytes: &[u8]) -> bool
     word(bytes, 12) != 0
 }
 
-// Whether the wet bulb's state is other than water.
-fn is_not_water(bytes: &[u8]) -> bool
+// Whether the wet bulb's state is none.
+fn has_no_state(bytes: &[u8]) -> bool
     requires { ⌜ length (now bytes) ≡ 16 ⌝ }
-    ensures { λ r. ⌜ r ≡ notWater (now (bytes .entry)) ⌝ }
+    ensures { λ r. ⌜ r ≡ noState (now (bytes .entry)) ⌝ }
 {
     if bytes[0] == 5 {
-        return bytes[1] != 0;
+        return !BulbState::holds(bytes[1] as u32);
     }
     false
 }
@@ -131,8 +132,8 @@ fn float_of(b: u32) -> f32
 
 // ---- from bytes to a message
 
-fn kind_of(channel: u8, x: f32, y: f32) -> Message
-    ensures { λ r. ⌜ r ≡ kind channel x y ⌝ }
+fn kind_of(channel: u8, state: u8, x: f32, y: f32) -> Message
+    ensures { λ r. ⌜ r ≡ kind channel state x y ⌝ }
 {
     if channel == 0 {
         return Message::Barometer(x);
@@ -149,7 +150,7 @@ fn kind_of(channel: u8, x: f32, y: f32) -> Message
     if channel == 4 {
         return Message::DryBulb(x);
     }
-    Message::WetBulb(x)
+    Message::WetBulb(BulbState::numbered(state as u32), x)
 }
 
 // What the bytes say: a message and its minute, or the first of refusals 1 to 6 that holds.
@@ -166,8 +167,8 @@ pub fn decode(bytes: &[u8]) -> Decoded
     if has_stray(bytes) {
         return Decoded::Refused(MessageRefusal::ByteNotZero);
     }
-    if is_not_water(bytes) {
-        return Decoded::Refused(MessageRefusal::WetBulbNotWater);
+    if has_no_state(bytes) {
+        return Decoded::Refused(MessageRefusal::NoSuchState);
     }
     let minute = word(bytes, 4);
     if !Minute::holds(minute) {
@@ -181,5 +182,6 @@ pub fn decode(bytes: &[u8]) -> Decoded
     if !is_finite(y) {
         return Decoded::Refused(MessageRefusal::NotFinite);
     }
-    Decoded::At(Minute(minute), kind_of(channel, float_of(x), float_of(y)))
+    let state = bytes[1];
+    Decoded::At(Minute(minute), kind_of(channel, state, float_of(x), float_of(y)))
 }

@@ -51,6 +51,9 @@ enum-known-r-7 c = search needs
 biased-requires-3 : tie.Need-biased-requires-3
 biased-requires-3 c κs = search needs
 
+number-requires-2 : tie.Need-number-requires-2
+number-requires-2 c κs = search needs
+
 returns : tie.Need-returns
 returns c = λ t. rw (c .before .before .before .r .given .1) (omega (arith, c .size .ensures))
 
@@ -71,7 +74,7 @@ returns-6 : tie.Need-returns-6
 returns-6 c = λ t. rw (c .before .before .r6 .given .1) (omega (arith, c .biased2 .ensures .0))
 
 returns-7 : tie.Need-returns-7
-returns-7 c = λ t. rw (c .before .before .r7 .given .1) (omega (arith, c .biased3 .ensures .0))
+returns-7 c = λ t. rw (c .before .before .before .r7 .given .1) (omega (arith, c .before .biased3 .ensures .0, c .number2 .ensures))
 
 pub cell-of-spec : {M : Type 1} → statement M
 cell-of-spec =
@@ -92,6 +95,7 @@ cell-of-spec =
     biased-requires-2
     enum-known-r-7
     biased-requires-3
+    number-requires-2
     returns
     returns-2
     returns-3

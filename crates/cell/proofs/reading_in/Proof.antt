@@ -30,17 +30,17 @@ pair-in-requires-2 c κs = search needs
 returns-4 : tie.Need-returns-4
 returns-4 c = λ m. rw (c .before .if4 .taken) (c .pair-in2 .ensures (c .before .before .before .before .before .args .unit) m)
 
-bulb-in-requires : tie.Need-bulb-in-requires
-bulb-in-requires c κs = search needs
+dry-bulb-in-requires : tie.Need-dry-bulb-in-requires
+dry-bulb-in-requires c κs = search needs
 
 returns-5 : tie.Need-returns-5
-returns-5 c = λ m. rw (c .before .if5 .taken) (c .bulb-in .ensures (c .before .before .before .before .before .before .args .unit) m)
+returns-5 c = λ m. rw (c .before .if5 .taken) (c .dry-bulb-in .ensures (c .before .before .before .before .before .before .args .unit) m)
 
-bulb-in-requires-2 : tie.Need-bulb-in-requires-2
-bulb-in-requires-2 c κs = search needs
+wet-bulb-in-requires : tie.Need-wet-bulb-in-requires
+wet-bulb-in-requires c κs = search needs
 
 returns-6 : tie.Need-returns-6
-returns-6 c = λ m. rw (c .before .if6 .taken) (c .bulb-in2 .ensures (c .before .before .before .before .before .before .before .args .unit) m)
+returns-6 c = λ m. rw (c .before .if6 .taken) (c .wet-bulb-in .ensures (c .before .before .before .before .before .before .before .args .unit) m)
 
 returns-7 : tie.Need-returns-7
 returns-7 c = let above : 6 ≤ c .before .before .before .before .before .before .args .channel = omega arith in λ m. rw (le-ltb _ _ above)
@@ -57,8 +57,8 @@ reading-in-spec =
     returns-3
     pair-in-requires-2
     returns-4
-    bulb-in-requires
+    dry-bulb-in-requires
     returns-5
-    bulb-in-requires-2
+    wet-bulb-in-requires
     returns-6
     returns-7)

@@ -17,10 +17,10 @@ use Rattle.message.proofs.barometer.Tie as tie
 
 -- w is z as it was kept in the unit v, which the match found u to be
 in-unit : (u v : BarometerUnit) (t : ℕ) (z w : ℤ) → u ≡ v → w ≡ z → inside (pressureLimits u) z ≡ true →
-    given (record { channel = 0; minute = t; first = pressure v w; second = none }) ≡ oneFigure (pressureLimits u) 0 t (pressure u) z
+    given (record { channel = 0; minute = t; first = pressure v w; second = none }) ≡ oneFigure (pressureLimits u) 0 t (pressure u) none z
 in-unit u v t z w e f i =
-    subst (λ (v : BarometerUnit). given (record { channel = 0; minute = t; first = pressure v w; second = none }) ≡ oneFigure (pressureLimits u) 0 t (pressure u) z) e
-    (one-given (pressureLimits u) 0 t (pressure u) z w f i)
+    subst (λ (v : BarometerUnit). given (record { channel = 0; minute = t; first = pressure v w; second = none }) ≡ oneFigure (pressureLimits u) 0 t (pressure u) none z) e
+    (one-given (pressureLimits u) 0 t (pressure u) none z w f i)
 
 holds-requires : tie.Need-holds-requires
 holds-requires c κs = search needs
@@ -28,7 +28,7 @@ holds-requires c κs = search needs
 returns : tie.Need-returns
 returns c =
     let start = c .before .before .args in
-    one-refused (pressureLimits (start .unit)) 0 (start .minute .0) (pressure (start .unit)) (start .n .v)
+    one-refused (pressureLimits (start .unit)) 0 (start .minute .0) (pressure (start .unit)) none (start .n .v)
     (sym (c .before .holds .ensures) ∙ not-true _ (c .if1 .taken))
 
 enum-told : tie.Need-enum-told

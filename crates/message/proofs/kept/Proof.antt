@@ -11,7 +11,7 @@ use Rattle.quantity.specs.declared.BarometerUnit.{BarometerUnit}
 use Rattle.quantity.specs.declared.BarometerUnit.the-variants.{Hectopascals, Millimetres}
 use Rattle.message.specs.Value.{timesRounded}
 use Rattle.wire.specs.Kinds.{Sound}
-use Rattle.message.specs.Receive.{Figure, °C, m/s, kn, Entry, pressure}
+use Rattle.message.specs.Receive.{Figure, °C, m/s, kn, wick, none, Entry, pressure}
 use Rattle.message.specs.Work.{capped, oneFigure, twoFigures}
 use Rattle.message.proofs.Keep.{Small, one-exact, two-exact}
 use borrow.Author.Needs.{needs}
@@ -23,9 +23,9 @@ small Hectopascals = (lit< tt, lit< tt)
 small Millimetres = (lit< tt, lit< tt)
 
 -- from what a function says of the rounded numbers to the exact ones
-one : (l : Limits) → Small l → (channel t : ℕ) (figure : ℤ → Figure) (x : Float) {w : ℤ} {r : Answer ℕ Entry} →
-    r ≡ oneFigure l channel t figure w → w ≡ capped 10 x → r ≡ oneFigure l channel t figure (timesRounded 10 x)
-one l s channel t figure x e f = e ∙ ap (oneFigure l channel t figure) f ∙ one-exact 10 l s channel t figure x
+one : (l : Limits) → Small l → (channel t : ℕ) (figure : ℤ → Figure) (beside : Figure) (x : Float) {w : ℤ} {r : Answer ℕ Entry} →
+    r ≡ oneFigure l channel t figure beside w → w ≡ capped 10 x → r ≡ oneFigure l channel t figure beside (timesRounded 10 x)
+one l s channel t figure beside x e f = e ∙ ap (oneFigure l channel t figure beside) f ∙ one-exact 10 l s channel t figure x beside
 
 two : (l : Limits) → Small l → (channel t : ℕ) (figure : ℤ → Figure) (x y : Float) {w a : ℤ} {r : Answer ℕ Entry} →
     r ≡ twoFigures l channel t figure w a → w ≡ capped 10 x → a ≡ capped 1 y → r ≡ twoFigures l channel t figure (timesRounded 10 x) (timesRounded 1 y)
@@ -80,8 +80,8 @@ enum-known-m-5 c = search needs
 tenths-requires-5 : tie.Need-tenths-requires-5
 tenths-requires-5 c κs = subst Sound (c .before .m5 .given .1) (c .before .before .before .pre)
 
-bulb-requires : tie.Need-bulb-requires
-bulb-requires c κs = search needs
+dry-bulb-requires : tie.Need-dry-bulb-requires
+dry-bulb-requires c κs = search needs
 
 enum-known-m-6 : tie.Need-enum-known-m-6
 enum-known-m-6 c = search needs
@@ -89,20 +89,20 @@ enum-known-m-6 c = search needs
 tenths-requires-6 : tie.Need-tenths-requires-6
 tenths-requires-6 c κs = subst Sound (c .before .m6 .given .1) (c .before .before .before .pre)
 
-bulb-requires-2 : tie.Need-bulb-requires-2
-bulb-requires-2 c κs = search needs
+wet-dry-bulb-requires : tie.Need-wet-bulb-requires
+wet-bulb-requires c κs = search needs
 
 returns : tie.Need-returns
 returns c =
     let m = c .before .before .before .m .given in
     let start = c .before .before .before .before .before .args in
-    rw (m .1) (one (pressureLimits (start .unit)) (small (start .unit)) 0 (start .minute .0) (pressure (start .unit)) (m .0 .0) (c .barometer .ensures) (c .before .tenths .ensures))
+    rw (m .1) (one (pressureLimits (start .unit)) (small (start .unit)) 0 (start .minute .0) (pressure (start .unit)) none (m .0 .0) (c .barometer .ensures) (c .before .tenths .ensures))
 
 returns-2 : tie.Need-returns-2
 returns-2 c =
     let m = c .before .before .before .m2 .given in
     let start = c .before .before .before .before .before .args in
-    rw (m .1) (one limits.wheelhouse (lit< tt, lit< tt) 1 (start .minute .0) °C (m .0 .0) (c .wheelhouse .ensures) (c .before .tenths2 .ensures))
+    rw (m .1) (one limits.wheelhouse (lit< tt, lit< tt) 1 (start .minute .0) °C none (m .0 .0) (c .wheelhouse .ensures) (c .before .tenths2 .ensures))
 
 returns-3 : tie.Need-returns-3
 returns-3 c =
@@ -120,13 +120,13 @@ returns-5 : tie.Need-returns-5
 returns-5 c =
     let m = c .before .before .before .m5 .given in
     let start = c .before .before .before .before .before .args in
-    rw (m .1) (one limits.bulb (lit< tt, lit< tt) 4 (start .minute .0) °C (m .0 .0) (c .bulb .ensures) (c .before .tenths5 .ensures))
+    rw (m .1) (one limits.bulb (lit< tt, lit< tt) 4 (start .minute .0) °C none (m .0 .0) (c .dry-bulb .ensures) (c .before .tenths5 .ensures))
 
 returns-6 : tie.Need-returns-6
 returns-6 c =
     let m = c .before .before .before .m6 .given in
     let start = c .before .before .before .before .before .args in
-    rw (m .1) (one limits.bulb (lit< tt, lit< tt) 5 (start .minute .0) °C (m .0 .0) (c .bulb2 .ensures) (c .before .tenths6 .ensures))
+    rw (m .1) (one limits.bulb (lit< tt, lit< tt) 5 (start .minute .0) °C (wick (m .0 .0)) (m .0 .1 .0) (c .wet-bulb .ensures) (c .before .tenths6 .ensures))
 
 pub kept-spec : {M : Type 1} → statement M
 kept-spec =
@@ -148,10 +148,10 @@ kept-spec =
     ship-motion-requires
     enum-known-m-5
     tenths-requires-5
-    bulb-requires
+    dry-bulb-requires
     enum-known-m-6
     tenths-requires-6
-    bulb-requires-2
+    wet-bulb-requires
     returns
     returns-2
     returns-3

@@ -4,7 +4,7 @@ use native.Mathlib.Omega.{arith}
 use lib.Dec.{lit≤}
 use Rattle.number.proofs.Sizes.{within-size}
 use Rattle.quantity.specs.Limits as limits
-use Rattle.message.specs.Receive.{°C}
+use Rattle.message.specs.Receive.{°C, none}
 use Rattle.message.proofs.Keep.{one-given, one-refused}
 use borrow.Author.Needs.{needs}
 use Rattle.message.proofs.wheelhouse.Statement.{statement}
@@ -21,12 +21,12 @@ keep-requires c κs =
 returns : tie.Need-returns
 returns c =
     let start = c .before .before .before .args in
-    one-given limits.wheelhouse 1 (start .minute .0) °C (start .n .v) (c .keep .result .v) (c .keep .ensures) (sym (c .before .before .holds .ensures) ∙ c .before .if1 .taken)
+    one-given limits.wheelhouse 1 (start .minute .0) °C none (start .n .v) (c .keep .result .v) (c .keep .ensures) (sym (c .before .before .holds .ensures) ∙ c .before .if1 .taken)
 
 returns-2 : tie.Need-returns-2
 returns-2 c =
     let start = c .before .before .args in
-    one-refused limits.wheelhouse 1 (start .minute .0) °C (start .n .v) (sym (c .before .holds .ensures) ∙ c .if1 .left)
+    one-refused limits.wheelhouse 1 (start .minute .0) °C none (start .n .v) (sym (c .before .holds .ensures) ∙ c .if1 .left)
 
 pub wheelhouse-spec : {M : Type 1} → statement M
 wheelhouse-spec = tie.close (tie.spec holds-requires keep-requires returns returns-2)

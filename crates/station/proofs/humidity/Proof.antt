@@ -17,14 +17,14 @@ use Rattle.store.specs.History.{isPresent}
 use Rattle.pressure.specs.Pressure.{barometerOf, outside, stationAnswer, pressureAs}
 use Rattle.pressure.specs.declared.WorkedPressure.{WorkedPressure}
 use Rattle.pressure.specs.declared.WorkedPressure.the-variants as pressed
-use Rattle.vapour.specs.Vapour.{IsTable}
+use Rattle.vapour.specs.Vapour.{Tables, AreTables}
 use Rattle.humidity.specs.Humidity.{IsMoisture}
 use Rattle.humidity.specs.declared.HumidityFigures.{HumidityFigures}
 use Rattle.humidity.specs.declared.Moisture.{Moisture}
-use Rattle.humidity.specs.declared.Moisture.the-variants.{Given, WetAboveDry, TooDry, OutsideLimits}
-use Rattle.station.specs.Source.{held, first, inCelsius, readingAt}
+use Rattle.humidity.specs.declared.Moisture.the-variants.{Given, WetAboveDry, TooWarmForIce, UnknownOutsideRange, AboveSaturation, TooDry, OutsideLimits}
+use Rattle.station.specs.Source.{held, first, inCelsius, stateIn, readingAt}
 use Rattle.store.specs.Block.{noStore}
-use Rattle.station.specs.Questions.{Answers, tooLate, missingAt, dryAt, wetAt, stationAt, HumidityRule, humidityTests, foreign}
+use Rattle.station.specs.Questions.{Answers, tooLate, missingAt, dryAt, wetAt, stateAt, stationAt, HumidityRule, humidityTests, foreign}
 use Rattle.station.specs.Parts.{Shows}
 use Rattle.station.specs.declared.Shown.{Shown}
 use Rattle.station.specs.declared.Shown.the-variants as shown
@@ -71,7 +71,7 @@ dry-is c =
     let at = k .before .before .before .before .before .before .before in
     is-kept (s at) 4 (m at) (k .before .before .recall .ensures) (k .in-air .given .1) ∙ ap (λ (x : Reading). recalled (entryOf (m at) x)) (c .in-air2 .given .1)
 
-module _ (c : tie.After-in-water2) where
+module _ (c : tie.After-on-wick2) where
   abbrev air : tie.After-in-air2
   air = c .before .before .before .before .before .before .before
 
@@ -81,10 +81,10 @@ module _ (c : tie.After-in-water2) where
   abbrev at : tie.Else2
   at = read .before .before .before
 
-  wet-is : recallOf (s at) 5 (m at) ≡ recalled (entryOf (m at) (WetBulb (c .in-water2 .given .0 .0)))
+  wet-is : recallOf (s at) 5 (m at) ≡ recalled (entryOf (m at) (WetBulb (c .on-wick2 .given .0 .0) (c .on-wick2 .given .0 .1 .0)))
   wet-is =
       let k = c .before .before .before in
-      is-kept (s at) 5 (m at) (k .before .before .recall2 .ensures) (k .in-water .given .1) ∙ ap (λ (x : Reading). recalled (entryOf (m at) x)) (c .in-water2 .given .1)
+      is-kept (s at) 5 (m at) (k .before .before .recall2 .ensures) (k .on-wick .given .1) ∙ ap (λ (x : Reading). recalled (entryOf (m at) x)) (c .on-wick2 .given .1)
 
   all-there : (rest : List (Test Numbered)) (a : Answer Numbered HumidityFigures) → Answers rest (HumidityRule (held (s at)) (m at)) a
       → Answers (noStore (s at) ∷ tooLate (m at) ∷ missingAt (held (s at)) (m at) 0 ∷ missingAt (held (s at)) (m at) 4 ∷ missingAt (held (s at)) (m at) 5 ∷ rest) (HumidityRule (held (s at)) (m at)) a
@@ -109,34 +109,34 @@ module _ (c : tie.After-humidity) where
   abbrev given : tie.After-p
   given = c .before .before .before
 
-  abbrev found : tie.After-in-water2
+  abbrev found : tie.After-on-wick2
   found = given .before .before .before .before
 
   given-is : let S = held (s (at found)) in
       Got (outside (S .barometer) (readingAt S (m (at found)))) (stationAt S (m (at found))) (pressed.Given (given .p .given .0 .0))
   given-is = pressed-is (given .before .before) (pressed.Given (given .p .given .0 .0)) (given .p .given .1)
 
-  moisture-is : (x : Moisture) → c .humidity .result ≡ x → let S = held (s (at found)) in IsMoisture (dryAt S (m (at found))) (wetAt S (m (at found))) (stationAt S (m (at found))) (S .psychrometer) x
+  moisture-is : (x : Moisture) → c .humidity .result ≡ x → let S = held (s (at found)) in IsMoisture (stateAt S (m (at found))) (dryAt S (m (at found))) (wetAt S (m (at found))) (stationAt S (m (at found))) (S .psychrometer) x
   moisture-is x e =
-      moisture-of x (sym (ap inCelsius (dry-is (air found)))) (sym (ap inCelsius (wet-is found))) (given-is .1) (c .before .psychrometer .ensures)
-      (subst (IsMoisture (air found .in-air2 .given .0 .0 .0 .v) (found .in-water2 .given .0 .0 .0 .v) (given .p .given .0 .0 .0 .v) (c .before .psychrometer .result .0 .v)) e (c .humidity .ensures))
+      moisture-of x (sym (ap stateIn (wet-is found))) (sym (ap inCelsius (dry-is (air found)))) (sym (ap inCelsius (wet-is found))) (given-is .1) (c .before .psychrometer .ensures)
+      (subst (IsMoisture (found .on-wick2 .given .0 .0) (air found .in-air2 .given .0 .0 .0 .v) (found .on-wick2 .given .0 .1 .0 .0 .v) (given .p .given .0 .0 .0 .v) (c .before .psychrometer .result .0 .v)) e (c .humidity .ensures))
 
-  told : (x : Moisture) → c .humidity .result ≡ x → (table : ℤ → ℕ) → IsTable table → let S = held (s (at found)) in
-      Answers (noStore (s (at found)) ∷ humidityTests (foreign S (m (at found))) table S (m (at found))) (HumidityRule S (m (at found))) (asked x)
-  told x e table tabled =
+  told : (x : Moisture) → c .humidity .result ≡ x → (tables : Tables) → AreTables tables → let S = held (s (at found)) in
+      Answers (noStore (s (at found)) ∷ humidityTests (foreign S (m (at found))) tables S (m (at found))) (HumidityRule S (m (at found))) (asked x)
+  told x e tables tabled =
       let s = s (at found) in
       let m = m (at found) in
       let S = held s in
       all-there found _ (asked x)
       (pass _ _ _ (asked x) (given-is .0)
-      (moisture-told (dryAt S m) (wetAt S m) (stationAt S m) (S .psychrometer) table tabled
+      (moisture-told (stateAt S m) (dryAt S m) (wetAt S m) (stationAt S m) (S .psychrometer) tables tabled
       (first-inside s 4 m (lit< tt) (ap isPresent (dry-is (air found)))) (first-inside s 5 m (lit< tt) (ap isPresent (wet-is found))) x (moisture-is x e)))
 
 is-store-requires : tie.Need-is-store-requires
 is-store-requires c κs = search needs
 
 returns : tie.Need-returns
-returns c = let a = c .before .before .args in (λ table tabled. no-store (now (a .store)) (a .minute) _ _ (c .before .is-store .ensures) (c .if1 .taken), refl)
+returns c = let a = c .before .before .args in (λ tables tabled. no-store (now (a .store)) (a .minute) _ _ (c .before .is-store .ensures) (c .if1 .taken), refl)
 
 holds-requires : tie.Need-holds-requires
 holds-requires c κs = search needs
@@ -145,7 +145,7 @@ returns-2 : tie.Need-returns-2
 returns-2 c =
     let one = c .before .before in
     let a = one .before .before .args in
-    (λ table tabled. too-late (now (a .store)) (a .minute) _ _ (one .before .is-store .ensures) (c .before .holds .ensures) (one .if1 .left) (c .if2 .taken), refl)
+    (λ tables tabled. too-late (now (a .store)) (a .minute) _ _ (one .before .is-store .ensures) (c .before .holds .ensures) (one .if1 .left) (c .if2 .taken), refl)
 
 barometer-at-requires : tie.Need-barometer-at-requires
 barometer-at-requires c κs = search needs
@@ -158,7 +158,7 @@ enum-told c = search needs
 
 returns-3 : tie.Need-returns-3
 returns-3 c = (
-  λ table tabled. front (c .before .before .before) _ _ (stop _ _ _ (ap not (shows (c .before .before) shown.Nothing (c .enum-told .given .1)))),
+  λ tables tabled. front (c .before .before .before) _ _ (stop _ _ _ (ap not (shows (c .before .before) shown.Nothing (c .enum-told .given .1)))),
   refl,
 )
 
@@ -173,7 +173,7 @@ enum-told-2 c = search needs
 
 returns-4 : tie.Need-returns-4
 returns-4 c = (
-  λ table tabled.
+  λ tables tabled.
       let read = c .before .before .before .before in
       let at = read .before .before .before in
       front at _ _
@@ -193,15 +193,15 @@ returns-5 c =
 recall-requires-2 : tie.Need-recall-requires-2
 recall-requires-2 c κs = search needs
 
-enum-known-in-water : tie.Need-enum-known-in-water
-enum-known-in-water c = search needs
+enum-known-on-wick : tie.Need-enum-known-on-wick
+enum-known-on-wick c = search needs
 
 enum-told-3 : tie.Need-enum-told-3
 enum-told-3 c = search needs
 
 returns-6 : tie.Need-returns-6
 returns-6 c = (
-  λ table tabled.
+  λ tables tabled.
       let air = c .before .before .before .before in
       let read = air .before .before .before .before .before .before .before in
       let at = read .before .before .before in
@@ -212,15 +212,15 @@ returns-6 c = (
   refl,
 )
 
-enum-known-in-water-2 : tie.Need-enum-known-in-water-2
-enum-known-in-water-2 c = search needs
+enum-known-on-wick-2 : tie.Need-enum-known-on-wick-2
+enum-known-on-wick-2 c = search needs
 
 returns-7 : tie.Need-returns-7
 returns-7 c =
     let k = c .before .before in
     let air = k .before .before .before .before in
     let at = air .before .before .before .before .before .before .before .before .before .before in
-    no-other (s at) 5 (m at) (k .before .before .recall2 .ensures) (k .in-water .given .0 .0) (lit< tt) (k .in-water .given .1) (0 ∷ 1 ∷ 2 ∷ 3 ∷ 4 ∷ 5 ∷ []) refl (c .match5 .keys2)
+    no-other (s at) 5 (m at) (k .before .before .recall2 .ensures) (k .on-wick .given .0 .0) (lit< tt) (k .on-wick .given .1) (0 ∷ 1 ∷ 2 ∷ 3 ∷ 4 ∷ 5 ∷ []) refl (c .match5 .keys2)
 
 station-pressure-requires : tie.Need-station-pressure-requires
 station-pressure-requires c κs = search needs
@@ -252,6 +252,15 @@ enum-told-7 c = search needs
 enum-told-8 : tie.Need-enum-told-8
 enum-told-8 c = search needs
 
+enum-told-9 : tie.Need-enum-told-9
+enum-told-9 c = search needs
+
+enum-told-10 : tie.Need-enum-told-10
+enum-told-10 c = search needs
+
+enum-told-11 : tie.Need-enum-told-11
+enum-told-11 c = search needs
+
 returns-8 : tie.Need-returns-8
 returns-8 c = let h = c .before .h .given in (told (c .before .before .before) (Given (h .0 .0)) (h .1), refl)
 
@@ -259,19 +268,28 @@ returns-9 : tie.Need-returns-9
 returns-9 c = (told (c .before .before) WetAboveDry (c .enum-told4 .given .1), refl)
 
 returns-10 : tie.Need-returns-10
-returns-10 c = (told (c .before .before) TooDry (c .enum-told5 .given .1), refl)
+returns-10 c = (told (c .before .before) TooWarmForIce (c .enum-told5 .given .1), refl)
 
 returns-11 : tie.Need-returns-11
-returns-11 c = (told (c .before .before) OutsideLimits (c .enum-told6 .given .1), refl)
+returns-11 c = (told (c .before .before) UnknownOutsideRange (c .enum-told6 .given .1), refl)
 
 returns-12 : tie.Need-returns-12
-returns-12 c = absurd (pressed-is (c .before .before) pressed.OutsideLimits (c .enum-told7 .given .1))
+returns-12 c = (told (c .before .before) AboveSaturation (c .enum-told7 .given .1), refl)
 
 returns-13 : tie.Need-returns-13
-returns-13 c = (
-  λ table tabled.
+returns-13 c = (told (c .before .before) TooDry (c .enum-told8 .given .1), refl)
+
+returns-14 : tie.Need-returns-14
+returns-14 c = (told (c .before .before) OutsideLimits (c .enum-told9 .given .1), refl)
+
+returns-15 : tie.Need-returns-15
+returns-15 c = absurd (pressed-is (c .before .before) pressed.OutsideLimits (c .enum-told10 .given .1))
+
+returns-16 : tie.Need-returns-16
+returns-16 c = (
+  λ tables tabled.
       let found = c .before .before .before .before in
-      all-there found _ _ (stop _ _ _ (pressed-is (c .before .before) pressed.OutsideCertificate (c .enum-told8 .given .1))),
+      all-there found _ _ (stop _ _ _ (pressed-is (c .before .before) pressed.OutsideCertificate (c .enum-told11 .given .1))),
   refl,
 )
 
@@ -294,10 +312,10 @@ humidity-spec =
     enum-known-in-air-2
     returns-5
     recall-requires-2
-    enum-known-in-water
+    enum-known-on-wick
     enum-told-3
     returns-6
-    enum-known-in-water-2
+    enum-known-on-wick-2
     returns-7
     station-pressure-requires
     enum-known-p
@@ -309,9 +327,15 @@ humidity-spec =
     enum-told-6
     enum-told-7
     enum-told-8
+    enum-told-9
+    enum-told-10
+    enum-told-11
     returns-8
     returns-9
     returns-10
     returns-11
     returns-12
-    returns-13)
+    returns-13
+    returns-14
+    returns-15
+    returns-16)

@@ -1,4 +1,5 @@
 -- `entries` meets its contract: one test over the whole table, carried to both places. Assumes nothing.
+use Rattle.vapour.specs.Vapour.{water}
 use Rattle.vapour.proofs.TableLaws.{entry-is, near-at, entry-test}
 use borrow.Author.Needs.{needs}
 use Rattle.vapour.proofs.entries.Statement.{statement}
@@ -26,8 +27,8 @@ hundredths-requires-2 c κs = search needs
 returns : tie.Need-returns
 unfolding entry-test
 returns c = (
-  rw (c .before .hundredths .ensures, entry-is) (near-at _ _ tt (c .before .before .pre .0)),
-  rw (c .hundredths2 .ensures, entry-is) (near-at _ _ tt (c .before .before .pre .1)),
+  rw (c .before .hundredths .ensures, entry-is) (near-at water _ _ tt (c .before .before .pre .0)),
+  rw (c .hundredths2 .ensures, entry-is) (near-at water _ _ tt (c .before .before .pre .1)),
 )
 
 pub entries-spec : {M : Type 1} → statement M

@@ -10,7 +10,7 @@ use borrow.Author.Tests.{eq-eqb, ne-eqb, lt-ltb, le-ltb, not-true, not-false}
 use Rattle.number.specs.Refusal.{Answer, given, answer}
 use Rattle.quantity.specs.Limits.{lastMinute}
 use Rattle.wire.specs.Finite.{isFinite}
-use Rattle.wire.specs.Bytes.{channel, minute, first, second}
+use Rattle.wire.specs.Bytes.{channel, state, minute, first, second}
 use Rattle.wire.specs.Kinds.{kind}
 use Rattle.wire.specs.Decode.{Sent, sent, decoded}
 use Rattle.wire.specs.declared.Message.{Message}
@@ -26,7 +26,7 @@ finite-word : {n w : ℕ} {held t : Bool} → n ≡ w → held ≡ isFinite (ofB
 finite-word e h k = sym (ap (λ (x : ℕ). isFinite (ofBits binary32 x)) e) ∙ sym h ∙ k
 
 -- what the code found is what was sent
-sent-is : (m : List ℕ) {t : ℕ} {x y : Float} {k : Message} → t ≡ minute m → x ≡ first m → y ≡ second m → k ≡ kind (channel m) x y →
+sent-is : (m : List ℕ) {t : ℕ} {x y : Float} {k : Message} → t ≡ minute m → x ≡ first m → y ≡ second m → k ≡ kind (channel m) (state m) x y →
     _≡_ {A = Answer ℕ Sent} (given (record { minute = t; message = k })) (given (sent m))
 sent-is m e f g h = rw (h, e, f, g)
 
@@ -57,8 +57,8 @@ returns-3 c =
       sym (c .before .has-stray .ensures) ∙ c .if3 .taken,
     )
 
-is-not-water-requires : tie.Need-is-not-water-requires
-is-not-water-requires c κs = search needs
+has-no-state-requires : tie.Need-has-no-state-requires
+has-no-state-requires c κs = search needs
 
 returns-4 : tie.Need-returns-4
 unfolding answer decoded
@@ -67,7 +67,7 @@ returns-4 c =
       eq-eqb _ _ (c .before .before .before .before .before .before .if1 .left),
       le-ltb _ _ (c .before .before .before .before .if2 .left),
       sym (c .before .before .before .has-stray .ensures) ∙ c .before .before .if3 .left,
-      sym (c .before .is-not-water .ensures) ∙ c .if4 .taken,
+      sym (c .before .has-no-state .ensures) ∙ c .if4 .taken,
     )
 
 word-requires : tie.Need-word-requires
@@ -83,7 +83,7 @@ returns-5 c =
       eq-eqb _ _ (c .before .before .before .before .before .before .before .before .before .if1 .left),
       le-ltb _ _ (c .before .before .before .before .before .before .before .if2 .left),
       sym (c .before .before .before .before .before .before .has-stray .ensures) ∙ c .before .before .before .before .before .if3 .left,
-      sym (c .before .before .before .before .is-not-water .ensures) ∙ c .before .before .before .if4 .left,
+      sym (c .before .before .before .before .has-no-state .ensures) ∙ c .before .before .before .if4 .left,
       in-time (c .before .before .word .ensures) (c .before .holds .ensures) (not-true _ (c .if5 .taken)),
     )
 
@@ -100,7 +100,7 @@ returns-6 c =
       eq-eqb _ _ (c .before .before .before .before .before .before .before .before .before .before .before .before .if1 .left),
       le-ltb _ _ (c .before .before .before .before .before .before .before .before .before .before .if2 .left),
       sym (c .before .before .before .before .before .before .before .before .before .has-stray .ensures) ∙ c .before .before .before .before .before .before .before .before .if3 .left,
-      sym (c .before .before .before .before .before .before .before .is-not-water .ensures) ∙ c .before .before .before .before .before .before .if4 .left,
+      sym (c .before .before .before .before .before .before .before .has-no-state .ensures) ∙ c .before .before .before .before .before .before .if4 .left,
       in-time (c .before .before .before .before .before .word .ensures) (c .before .before .before .before .holds .ensures) (not-false _ (c .before .before .before .if5 .left)),
       finite-word (c .before .before .word2 .ensures) (c .before .is-finite .ensures) (not-true _ (c .if6 .taken)),
     )
@@ -118,7 +118,7 @@ returns-7 c =
       eq-eqb _ _ (c .before .before .before .before .before .before .before .before .before .before .before .before .before .before .before .if1 .left),
       le-ltb _ _ (c .before .before .before .before .before .before .before .before .before .before .before .before .before .if2 .left),
       sym (c .before .before .before .before .before .before .before .before .before .before .before .before .has-stray .ensures) ∙ c .before .before .before .before .before .before .before .before .before .before .before .if3 .left,
-      sym (c .before .before .before .before .before .before .before .before .before .before .is-not-water .ensures) ∙ c .before .before .before .before .before .before .before .before .before .if4 .left,
+      sym (c .before .before .before .before .before .before .before .before .before .before .has-no-state .ensures) ∙ c .before .before .before .before .before .before .before .before .before .if4 .left,
       in-time (c .before .before .before .before .before .before .before .before .word .ensures) (c .before .before .before .before .before .before .before .holds .ensures) (not-false _ (c .before .before .before .before .before .before .if5 .left)),
       finite-word (c .before .before .before .before .before .word2 .ensures) (c .before .before .before .before .is-finite .ensures) (not-false _ (c .before .before .before .if6 .left)),
       finite-word (c .before .before .word3 .ensures) (c .before .is-finite2 .ensures) (not-true _ (c .if7 .taken)),
@@ -141,7 +141,7 @@ returns-8 c =
       eq-eqb _ _ (c .before .before .before .before .before .before .before .before .before .before .before .before .before .before .before .before .before .before .if1 .left),
       le-ltb _ _ (c .before .before .before .before .before .before .before .before .before .before .before .before .before .before .before .before .if2 .left),
       sym (c .before .before .before .before .before .before .before .before .before .before .before .before .before .before .before .has-stray .ensures) ∙ c .before .before .before .before .before .before .before .before .before .before .before .before .before .before .if3 .left,
-      sym (c .before .before .before .before .before .before .before .before .before .before .before .before .before .is-not-water .ensures) ∙ c .before .before .before .before .before .before .before .before .before .before .before .before .if4 .left,
+      sym (c .before .before .before .before .before .before .before .before .before .before .before .before .before .has-no-state .ensures) ∙ c .before .before .before .before .before .before .before .before .before .before .before .before .if4 .left,
       in-time (c .before .before .before .before .before .before .before .before .before .before .before .word .ensures) (c .before .before .before .before .before .before .before .before .before .before .holds .ensures) (not-false _ (c .before .before .before .before .before .before .before .before .before .if5 .left)),
       finite-word (c .before .before .before .before .before .before .before .before .word2 .ensures) (c .before .before .before .before .before .before .before .is-finite .ensures) (not-false _ (c .before .before .before .before .before .before .if6 .left)),
       finite-word (c .before .before .before .before .before .word3 .ensures) (c .before .before .before .before .is-finite2 .ensures) (not-false _ (c .before .before .before .if7 .left)),
@@ -161,7 +161,7 @@ decode-spec =
     returns-2
     has-stray-requires
     returns-3
-    is-not-water-requires
+    has-no-state-requires
     returns-4
     word-requires
     holds-requires
