@@ -26,7 +26,8 @@ pub struct Humidity {
 /// A trillion: an exact e is so many trillionths of a hundredth of hPa.
 const TRILLION: i64 = 1_000_000_000_000;
 
-/// "Unknown outside its air range": of the dry bulb "in -9.9 to 0.0", tenths °C.
+/// The air in which a state may be unknown, tenths °C: 21 is for "dry not in -9.9 to
+/// 0.0".
 const UNKNOWN_AIR: RangeInclusive<i32> = -99..=0;
 
 /// "Relative humidity: 100 e / table(dry), rounded to 1 %", for a saturation above 0.
@@ -51,8 +52,8 @@ pub struct Psychrometer {
 }
 
 impl Psychrometer {
-    /// e before it is rounded, in trillionths of a hundredth: "table at wet - factor
-    /// × A × pressure × (dry - wet)", the factor in millionths.
+    /// e before it is rounded, in trillionths of a hundredth: a table at the wet bulb
+    /// less factor × A × pressure × (dry - wet), the factor in millionths.
     ///
     /// A is in millionths, pressure, dry and wet in tenths, so the product is in
     /// 10^-14 hPa.
@@ -76,8 +77,8 @@ impl Psychrometer {
         self.exact(tables.over_ice(self.wet), 882_200)
     }
 
-    /// "Vapour pressure e .. rounded once to 0.01 hPa", hundredths. "Unknown (2): wet
-    /// not below dry, ice; else half the sum of the two exact values."
+    /// e, "rounded once to 0.01 hPa", in hundredths. Unknown: "wet not below dry, ice;
+    /// else half the sum of the two exact values, rounded once".
     #[inline]
     fn vapour_pressure(&self, tables: &Vapour) -> i32 {
         let e = match self.state {
