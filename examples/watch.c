@@ -1,15 +1,16 @@
-/* A watch of four hours through the C interface: instruments are heard each minute with a gap, the four questions are asked, the
- * answers go into a watch file, and the file is listed. */
+/* A watch of four hours through the C interface: instruments are heard each minute with a gap, the four questions are asked, the wick
+ * freezes, the answers go into a watch file, and the file is listed. */
 #include <inttypes.h>
 #include <stdio.h>
 #include <string.h>
 
 #include "zhitomrak.h"
 
-/* A message: channel, minute and binary32 values, little endian. */
-static void send(zhitomrak_store *store, uint8_t channel, uint32_t minute, float first, float second)
+/* A message: channel, state, minute and binary32 values, little endian. The state is what is on the wet bulb: 0 water, 1 ice, 2
+ * unknown; on the other channels it is 0. */
+static void send(zhitomrak_store *store, uint8_t channel, uint8_t state, uint32_t minute, float first, float second)
 {
-    uint8_t message[16] = {channel};
+    uint8_t message[16] = {channel, state};
     memcpy(message + 4, &minute, 4);
     memcpy(message + 8, &first, 4);
     memcpy(message + 12, &second, 4);
@@ -25,17 +26,22 @@ static void say_refusal(zhitomrak_refusal why)
     printf("refused %" PRIu32 ", channel %" PRIu32 ", minute %" PRIu32 "\n", why.number, why.channel, why.minute);
 }
 
+static void say_humidity(const char *of, zhitomrak_humidity_answer h)
+{
+    printf("%s %" PRIu32 " %" PRIu32 " %" PRIu32 " %" PRIu32 " %" PRId32 "\n", of, h.e, h.saturation, h.deficit, h.relative, h.dew);
+}
+
 /* The instruments of one minute. */
 static void minute_passes(zhitomrak_store *store, uint32_t minute)
 {
     float falls = (float)minute * 0.03f;
     if (minute < 60 || minute >= 75) /* a quarter of an hour without barometer */
-        send(store, 0, minute, 741.9f - falls, 0.0f);
-    send(store, 1, minute, 12.4f, 0.0f);
-    send(store, 2, minute, 2.5f, 40.0f);
-    send(store, 3, minute, 12.5f, 260.0f);
-    send(store, 4, minute, 20.0f, 0.0f);
-    send(store, 5, minute, 15.0f, 0.0f);
+        send(store, 0, 0, minute, 741.9f - falls, 0.0f);
+    send(store, 1, 0, minute, 12.4f, 0.0f);
+    send(store, 2, 0, minute, 2.5f, 40.0f);
+    send(store, 3, 0, minute, 12.5f, 260.0f);
+    send(store, 4, 0, minute, 20.0f, 0.0f);
+    send(store, 5, 0, minute, 15.0f, 0.0f);
 }
 
 int main(void)
@@ -56,8 +62,8 @@ int main(void)
     printf("open: %" PRIu32 "\n", zhitomrak_open(&store, settings));
     for (uint32_t minute = 0; minute <= 240; minute++)
         minute_passes(&store, minute);
-    send(&store, 0, 240, 741.9f, 0.0f); /* the newest minute again */
-    send(&store, 4, 180, 20.0f, 0.0f); /* a clock that has gone back by an hour */
+    send(&store, 0, 0, 240, 741.9f, 0.0f); /* the newest minute again */
+    send(&store, 4, 0, 180, 20.0f, 0.0f); /* a clock that has gone back by an hour */
 
     zhitomrak_pressure_answer missing = zhitomrak_pressure(&store, 70);
     say_refusal(missing.refusal);
@@ -70,8 +76,16 @@ int main(void)
     printf("pressure %" PRId64 "\n", pressure.pressure);
     printf("tendency %" PRId64 ", %" PRIu64 " absent\n", tendency.change, tendency.absent);
     printf("wind %" PRIu32 " from %" PRIu32 "\n", wind.speed, wind.direction);
-    printf("humidity %" PRIu32 " %" PRIu32 " %" PRIu32 " %" PRIu32 " %" PRId32 "\n", humidity.e, humidity.saturation, humidity.deficit,
-           humidity.relative, humidity.dew);
+    say_humidity("humidity", humidity);
+
+    send(&store, 0, 0, 241, 734.7f, 0.0f);
+    send(&store, 4, 0, 241, -10.0f, 0.0f);
+    send(&store, 5, 3, 241, -10.0f, 0.0f); /* there is no state 3 */
+    send(&store, 5, 1, 241, -10.0f, 0.0f); /* ice */
+    zhitomrak_humidity_answer iced = zhitomrak_humidity(&store, 241);
+    if (iced.refusal.number)
+        return 1;
+    say_humidity("humidity by an iced bulb", iced);
 
     zhitomrak_records records = {{
         {ZHITOMRAK_TENDENCY, 230, (int32_t)tendency.change, (int32_t)tendency.absent, 0, 0, 0},

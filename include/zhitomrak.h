@@ -77,19 +77,22 @@ typedef struct {
 } zhitomrak_heard;
 
 /* Hears a message of instruments, 16 bytes: 0, and its reading is kept; or the first of 1 to 8 and 19 whose reason holds, and the
- * block stays as it was. 1, not 16 bytes; 2, channel above 5; 3, a byte that must be zero isn't; 4, wet-bulb state not water; 5,
- * minute above 16777215; 6, infinite or not a number; 7, outside limits; 8, the minute is that of the channel's newest; 19, it is
+ * block stays as it was. 1, not 16 bytes; 2, channel above 5; 3, a byte that must be zero isn't; 4, the wet bulb's state is above 2;
+ * 5, minute above 16777215; 6, infinite or not a number; 7, outside limits; 8, the minute is that of the channel's newest; 19, it is
  * earlier, with the minutes between. A channel's first message gets neither 8 nor 19. Before all of them: ZHITOMRAK_NO_STORE, the
- * block was never opened, and stays as it was too. */
+ * block was never opened, and stays as it was too. Byte 1 of a wet bulb's message is its state, which is kept with the reading: 0
+ * water, 1 ice, 2 unknown. On every other channel that byte must be zero. */
 zhitomrak_heard zhitomrak_hear(zhitomrak_store *store, const uint8_t *message, size_t length);
 
 /* ---- questions: asking changes nothing; each can also be answered ZHITOMRAK_NO_STORE ---- */
 
 /* Why a question is refused: 5, minute above 16777215; 11, a reading is absent or no longer kept (channel and minute say which); 12,
- * the barometer's reading lies outside the certificate (minute says when); 13, wet bulb above dry bulb; 14, tendency asked for a
- * minute below 180; 15, vapour pressure below 0.19 hPa. The tests stand in this order: 5, 14, 11 by minute and channel, 12 by
- * minute, 13, 15. Before all of them: ZHITOMRAK_NO_STORE, the block was never opened. (Of a block that has a store's mark and that no
- * zhitomrak_open made, humidity can also be refused 7, between 12 and 13.) */
+ * the barometer's reading lies outside the certificate (minute says when); 13, wet bulb above dry bulb, with water on it; 14, tendency
+ * asked for a minute below 180; 15, vapour pressure below 0.19 hPa; 20, ice on the wet bulb, or a state unknown, and the wet bulb above
+ * 0.0 degrees; 21, state unknown, and the dry bulb not within -9.9 to 0.0 degrees; 22, vapour pressure above saturation over water at
+ * the dry bulb. The tests stand in this order: 5, 14, 11 by minute and channel, 12 by minute, 13, 20, 21, 22, 15. Before all of them:
+ * ZHITOMRAK_NO_STORE, the block was never opened. (Of a block that has a store's mark and that no zhitomrak_open made, humidity can
+ * also be refused 7, between 12 and 13, and a wet bulb whose state is above 2 is absent, 11.) */
 typedef struct {
     uint32_t number;  /* 0: answered */
     uint32_t channel; /* of 11, else 0 */
@@ -126,13 +129,14 @@ zhitomrak_wind_answer zhitomrak_wind(const zhitomrak_store *store, uint32_t minu
 typedef struct {
     zhitomrak_refusal refusal;
     uint32_t e;          /* vapour pressure, hundredths of hPa */
-    uint32_t saturation; /* hundredths of hPa */
+    uint32_t saturation; /* over water at the dry bulb, hundredths of hPa */
     uint32_t deficit;    /* hundredths of hPa */
     uint32_t relative;   /* percent */
     int32_t dew;         /* dew point, tenths of a degree */
 } zhitomrak_humidity_answer;
 
-/* Humidity at a minute, by the psychrometer; or 5, 11, 12, 13, 15. */
+/* Humidity at a minute, by the psychrometer and what is on its wet bulb; or 5, 11, 12, 13, 20, 21, 22, 15. Saturation, deficit,
+ * relative humidity and dew point are over water whatever is on it. With ice the wet bulb may stand above the dry bulb. */
 zhitomrak_humidity_answer zhitomrak_humidity(const zhitomrak_store *store, uint32_t minute);
 
 /* ---- watch files ---- */

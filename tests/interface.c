@@ -1,6 +1,7 @@
 /* What the examples do not show of the C interface. Files are listed into rooms of every length: refused 17 with the bytes needed, every
  * byte as it was, wherever the listing does not fit; else the text, and every byte behind it as it was. Messages are heard: 8 for the
- * minute of the channel's newest, 19 with the minutes between for an earlier one, and every word of the store as it was. */
+ * minute of the channel's newest, 19 with the minutes between for an earlier one, and every word of the store as it was. The wet bulb
+ * has states 0 to 2, each of its minutes its own, and humidity goes by it. */
 #include <stdio.h>
 #include <string.h>
 
@@ -53,9 +54,10 @@ static int files(void)
     return lists(none, 0, "refused 18 at 0\n");
 }
 
-/* A message of a bulb or the wheelhouse thermometer, and what hearing it comes to. */
+/* A message of a bulb, the wheelhouse thermometer or the barometer, and what hearing it comes to. */
 typedef struct {
     uint8_t channel;
+    uint8_t state;
     uint32_t minute;
     float value;
     uint32_t number;
@@ -64,32 +66,32 @@ typedef struct {
 
 /* In order. Channels 4 and 5 have a newest of their own, and what is refused moves none. */
 static const told watch[] = {
-    {4, 1000, 14.8f, 0, 0},
-    {4, 1000, 14.8f, 8, 0},
-    {4, 1000, 20.0f, 8, 0}, /* whatever it says */
-    {4, 997, 14.8f, 19, 3},
-    {4, 999, 14.8f, 19, 1},
-    {4, 745, 14.8f, 19, 255}, /* still kept, and no longer */
-    {4, 744, 14.8f, 19, 256},
-    {4, 0, 14.8f, 19, 1000},
-    {4, 0, 50.1f, 7, 0}, /* the earlier test refuses */
-    {4, 2000, 50.1f, 7, 0},
-    {4, 16777216, 14.8f, 5, 0},
-    {5, 200, 13.0f, 0, 0}, /* another channel's first */
-    {5, 200, 13.0f, 8, 0},
-    {1, 0, 18.0f, 0, 0}, /* minute 0 as the first, and as the newest */
-    {1, 0, 18.0f, 8, 0},
-    {1, 16777215, 18.0f, 0, 0},
-    {1, 0, 18.0f, 19, 16777215},
-    {4, 1000, 14.8f, 8, 0},
-    {4, 1001, 14.8f, 0, 0},
-    {4, 1000, 14.8f, 19, 1},
+    {4, 0, 1000, 14.8f, 0, 0},
+    {4, 0, 1000, 14.8f, 8, 0},
+    {4, 0, 1000, 20.0f, 8, 0}, /* whatever it says */
+    {4, 0, 997, 14.8f, 19, 3},
+    {4, 0, 999, 14.8f, 19, 1},
+    {4, 0, 745, 14.8f, 19, 255}, /* still kept, and no longer */
+    {4, 0, 744, 14.8f, 19, 256},
+    {4, 0, 0, 14.8f, 19, 1000},
+    {4, 0, 0, 50.1f, 7, 0}, /* the earlier test refuses */
+    {4, 0, 2000, 50.1f, 7, 0},
+    {4, 0, 16777216, 14.8f, 5, 0},
+    {5, 0, 200, 13.0f, 0, 0}, /* another channel's first */
+    {5, 0, 200, 13.0f, 8, 0},
+    {1, 0, 0, 18.0f, 0, 0}, /* minute 0 as the first, and as the newest */
+    {1, 0, 0, 18.0f, 8, 0},
+    {1, 0, 16777215, 18.0f, 0, 0},
+    {1, 0, 0, 18.0f, 19, 16777215},
+    {4, 0, 1000, 14.8f, 8, 0},
+    {4, 0, 1001, 14.8f, 0, 0},
+    {4, 0, 1000, 14.8f, 19, 1},
 };
 
 static int hears(zhitomrak_store *store, told t)
 {
     static zhitomrak_store was;
-    uint8_t message[16] = {t.channel};
+    uint8_t message[16] = {t.channel, t.state};
     memcpy(message + 4, &t.minute, 4);
     memcpy(message + 8, &t.value, 4);
     was = *store;
@@ -97,27 +99,85 @@ static int hears(zhitomrak_store *store, told t)
     int same = memcmp(&was, store, sizeof was) == 0;
     if (heard.number == t.number && heard.late == t.late && same == (t.number != 0))
         return 0;
-    printf("interface: channel %u, minute %lu: refused %lu, late %llu, the store %s; not %lu, %llu\n", t.channel, (unsigned long)t.minute,
-           (unsigned long)heard.number, (unsigned long long)heard.late, same ? "as it was" : "changed", (unsigned long)t.number,
-           (unsigned long long)t.late);
+    printf("interface: channel %u, state %u, minute %lu: refused %lu, late %llu, the store %s; not %lu, %llu\n", t.channel, t.state,
+           (unsigned long)t.minute, (unsigned long)heard.number, (unsigned long long)heard.late, same ? "as it was" : "changed",
+           (unsigned long)t.number, (unsigned long long)t.late);
+    return 1;
+}
+
+static int opens(zhitomrak_store *store)
+{
+    zhitomrak_settings settings = {.unit = ZHITOMRAK_HPA, .psychrometer = 662, .count = 2, .points = {{8500, 0}, {11000, 0}}};
+    if (zhitomrak_open(store, settings) == 0)
+        return 0;
+    printf("interface: good settings are refused\n");
     return 1;
 }
 
 static int messages(void)
 {
     static zhitomrak_store store;
-    zhitomrak_settings settings = {.unit = ZHITOMRAK_HPA, .psychrometer = 662, .count = 2, .points = {{8500, 0}, {11000, 0}}};
-    if (zhitomrak_open(&store, settings) != 0) {
-        printf("interface: good settings are refused\n");
+    if (opens(&store))
         return 1;
-    }
     for (size_t i = 0; i < sizeof watch / sizeof watch[0]; i++)
         if (hears(&store, watch[i]))
             return 1;
     return 0;
 }
 
+/* Bulbs at 1000.0 hPa with the wet one's state, what hearing that one comes to, and the humidity then: its number, e and percent. */
+typedef struct {
+    float dry;
+    uint8_t state;
+    float wet;
+    uint32_t heard;
+    uint32_t number;
+    uint32_t e;
+    uint32_t relative;
+} air;
+
+static const air airs[] = {
+    {-10.0f, 0, -10.0f, 0, 0, 287, 100},
+    {-10.0f, 1, -10.0f, 0, 0, 260, 91},
+    {-10.0f, 1, -9.8f, 0, 0, 276, 96}, /* ice, and the wet bulb above the dry */
+    {-9.9f, 2, -10.0f, 0, 0, 267, 92}, /* unknown: the mean, and ice */
+    {-9.9f, 2, -9.9f, 0, 0, 262, 91},
+    {-10.0f, 3, -10.0f, 4, 11, 0, 0},
+    {-10.0f, 255, -10.0f, 4, 11, 0, 0},
+    {-10.0f, 0, -9.9f, 0, 13, 0, 0},
+    {0.0f, 1, 0.1f, 0, 20, 0, 0},
+    {0.0f, 2, 50.0f, 0, 20, 0, 0},
+    {-10.0f, 2, -10.0f, 0, 21, 0, 0},
+    {-10.0f, 1, 0.0f, 0, 22, 0, 0},
+    {-40.0f, 1, -40.0f, 0, 15, 0, 0},
+};
+
+static int humidities(void)
+{
+    static zhitomrak_store store;
+    size_t count = sizeof airs / sizeof airs[0];
+    if (opens(&store) || hears(&store, (told){4, 1, 0, 5.0f, 3, 0})) /* no other channel has a state */
+        return 1;
+    for (uint32_t minute = 0; minute < count; minute++) {
+        air a = airs[minute];
+        if (hears(&store, (told){0, 0, minute, 1000.0f, 0, 0}) || hears(&store, (told){4, 0, minute, a.dry, 0, 0}) ||
+            hears(&store, (told){5, a.state, minute, a.wet, a.heard, 0}))
+            return 1;
+    }
+    for (uint32_t minute = 0; minute < count; minute++) {
+        zhitomrak_humidity_answer h = zhitomrak_humidity(&store, minute);
+        air a = airs[minute];
+        if (h.refusal.number == a.number && h.e == a.e && h.relative == a.relative)
+            continue;
+        printf("interface: dry %.1f, state %u, wet %.1f: refused %lu, e %lu, %lu %%; not %lu, %lu, %lu\n", (double)a.dry, a.state,
+               (double)a.wet, (unsigned long)h.refusal.number, (unsigned long)h.e, (unsigned long)h.relative, (unsigned long)a.number,
+               (unsigned long)a.e, (unsigned long)a.relative);
+        return 1;
+    }
+    return 0;
+}
+
 int main(void)
 {
-    return files() || messages();
+    return files() || messages() || humidities();
 }

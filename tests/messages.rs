@@ -1,4 +1,4 @@
-//! Compares the compiled program `intake` with a second reading of messages, written from document 01 and sharing nothing
+//! Compares the compiled program `intake` with a second reading of messages, written from documents 01 and 02 and sharing nothing
 //! with the proved one: values are taken apart as binary32 fields and rounded in 128-bit integers. Every message that is sent
 //! is damaged or bent towards an edge in some way; the seed is printed, and another may be given.
 //!
@@ -45,7 +45,7 @@ fn rounded(bits: u32, times: u128) -> i128 {
     if bits >> 31 == 1 { -(whole as i128) } else { whole as i128 }
 }
 
-/// The line that document 01 asks for.
+/// The line that the documents ask for.
 fn expected(m: &[u8], mm_hg: bool) -> String {
     if m.len() != 16 {
         return "refused 1".into();
@@ -60,7 +60,7 @@ fn expected(m: &[u8], mm_hg: bool) -> String {
     if m[2] != 0 || m[3] != 0 || (channel != 5 && m[1] != 0) || (!two && m[12..] != [0; 4]) {
         return "refused 3".into();
     }
-    if m[1] != 0 {
+    if m[1] > 2 {
         return "refused 4".into();
     }
     if minute > 16_777_215 {
@@ -84,6 +84,8 @@ fn expected(m: &[u8], mm_hg: bool) -> String {
     }
     if two {
         format!("{channel} {minute} {first} {}", angle % 360)
+    } else if channel == 5 {
+        format!("{channel} {minute} {first} {}", m[1])
     } else {
         format!("{channel} {minute} {first}")
     }
@@ -118,6 +120,9 @@ fn message(r: &mut Random) -> [u8; 16] {
     if m[0] == 2 || m[0] == 3 || r.below(20) == 0 {
         m[12..].copy_from_slice(&value(r).to_le_bytes());
     }
+    if m[0] == 5 || r.below(20) == 0 {
+        m[1] = if r.below(8) == 0 { r.next() as u8 } else { r.below(4) as u8 };
+    }
     if r.below(10) == 0 {
         m[r.below(16) as usize] ^= 1 << r.below(8);
     }
@@ -145,7 +150,7 @@ fn compare(program: &str, unit: &str, sent: &[u8]) -> Result<usize, String> {
         let wants = expected(m, unit == "mmHg");
         let says = lines.next().unwrap_or("nothing");
         if says != wants {
-            return Err(format!("{unit} {m:02x?}: the program says '{says}', document 01 '{wants}'"));
+            return Err(format!("{unit} {m:02x?}: the program says '{says}', the documents '{wants}'"));
         }
         count += 1;
     }

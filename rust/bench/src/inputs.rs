@@ -66,6 +66,32 @@ pub fn open_independent(barometer: &Barometer) -> station::Store {
     station::Store::open(&settings).expect("the settings are good")
 }
 
+/// A psychrometer: what is on its wet bulb, the dry bulbs that it has, and by how much the wet one stands below them at most.
+pub struct Bulbs {
+    state: u8,
+    dry: (i32, i32),
+    below: u32,
+}
+
+pub const WATER: Bulbs = Bulbs {
+    state: 0,
+    dry: (-100, 350),
+    below: 39,
+};
+
+pub const ICE: Bulbs = Bulbs {
+    state: 1,
+    dry: (-100, 0),
+    below: 9,
+};
+
+/// The air in which a state may be unknown.
+pub const UNKNOWN: Bulbs = Bulbs {
+    state: 2,
+    dry: (-99, 0),
+    below: 9,
+};
+
 pub type Message = [u8; 16];
 
 fn message(channel: u8, minute: u32, first: f32, second: f32) -> Message {
@@ -85,14 +111,17 @@ fn scattered(i: u32, n: u32) -> u32 {
 }
 
 /// All six channels a minute, each minute `step` after the last; values with no pattern.
-pub fn watch(barometer: &Barometer, minutes: u32, step: u32) -> Vec<Message> {
+pub fn watch(barometer: &Barometer, bulbs: &Bulbs, minutes: u32, step: u32) -> Vec<Message> {
     let (low, high) = barometer.readings;
     let mut sent = Vec::new();
     for t in 0..minutes {
         let tenths = |salt: u32, low: i32, high: i32| {
             (low + scattered(t * 8 + salt, (high - low + 1) as u32) as i32) as f32 / 10.0
         };
-        let dry = tenths(4, -100, 350);
+        let dry = tenths(4, bulbs.dry.0, bulbs.dry.1);
+        let below = scattered(t + 3, bulbs.below + 1) as f32 / 10.0;
+        let mut wet = message(5, t * step, dry - below, 0.0);
+        wet[1] = bulbs.state;
         sent.push(message(0, t * step, tenths(0, low, high), 0.0));
         sent.push(message(1, t * step, tenths(1, -100, 400), 0.0));
         sent.push(message(
@@ -108,12 +137,7 @@ pub fn watch(barometer: &Barometer, minutes: u32, step: u32) -> Vec<Message> {
             scattered(t + 9, 361) as f32,
         ));
         sent.push(message(4, t * step, dry, 0.0));
-        sent.push(message(
-            5,
-            t * step,
-            dry - scattered(t + 3, 40) as f32 / 10.0,
-            0.0,
-        ));
+        sent.push(wet);
     }
     sent
 }

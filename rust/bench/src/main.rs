@@ -8,7 +8,7 @@ mod inputs;
 use std::hint::black_box;
 use std::time::Instant;
 
-use inputs::{Barometer, Message, HPA, MM_HG};
+use inputs::{Barometer, Bulbs, Message, HPA, ICE, MM_HG, UNKNOWN, WATER};
 use reference::{listing, station, watchfile as independent};
 use zhitomrak::watchfile as proved;
 use zhitomrak::{raw, Store};
@@ -125,7 +125,7 @@ fn later(sent: &[Message], minutes: u32) -> Vec<Message> {
 /// Many stores, each message heard by all of them: what does not fit the caches any more.
 fn stores(count: usize) {
     let minutes = (200_000 / count / 6).clamp(4, 400) as u32;
-    let sent = inputs::watch(&HPA, minutes, 1);
+    let sent = inputs::watch(&HPA, &WATER, minutes, 1);
     let mut mine = vec![inputs::open_proved(&HPA); count];
     let mut theirs = vec![inputs::open_independent(&HPA); count];
     let (mut a, mut b) = (f64::MAX, f64::MAX);
@@ -199,12 +199,12 @@ fn compare_questions(a: &Store, b: &station::Store, asked: &[u32]) {
 }
 
 /// A watch heard on both sides, and their answers compared.
-fn kept(barometer: &Barometer, asked: &[u32]) -> (Store, station::Store) {
+fn kept(barometer: &Barometer, bulbs: &Bulbs, asked: &[u32]) -> (Store, station::Store) {
     let (mut a, mut b) = (
         inputs::open_proved(barometer),
         inputs::open_independent(barometer),
     );
-    let sent = inputs::watch(barometer, MINUTES, 1);
+    let sent = inputs::watch(barometer, bulbs, MINUTES, 1);
     same(
         "hear",
         hear_proved(&mut a, &sent),
@@ -217,7 +217,7 @@ fn kept(barometer: &Barometer, asked: &[u32]) -> (Store, station::Store) {
 fn questions() {
     let asked: Vec<u32> = (0..20_000).map(|i| MINUTES - 1 - i * 7 % 76).collect();
     let n = asked.len();
-    let (a, b) = kept(&HPA, &asked);
+    let (a, b) = kept(&HPA, &WATER, &asked);
     row(
         "pressure",
         n,
@@ -236,27 +236,34 @@ fn questions() {
         || ask(&asked, |m| a.wind(m).map_or(0, |w| w.speed + w.direction)),
         || ask(&asked, |m| b.wind(m).map_or(0, |w| w.speed + w.direction)),
     );
-    row(
-        "humidity",
-        n,
-        || {
-            ask(&asked, |m| {
-                a.humidity(m).map_or(0, |h| h.e + h.relative + h.dew)
-            })
-        },
-        || {
-            ask(&asked, |m| {
-                b.humidity(m).map_or(0, |h| h.e + h.relative + h.dew)
-            })
-        },
-    );
+    for (name, bulbs) in [
+        ("humidity", WATER),
+        ("humidity, ice", ICE),
+        ("humidity, state unknown", UNKNOWN),
+    ] {
+        let (a, b) = kept(&HPA, &bulbs, &asked);
+        row(
+            name,
+            n,
+            || {
+                ask(&asked, |m| {
+                    a.humidity(m).map_or(0, |h| h.e + h.relative + h.dew)
+                })
+            },
+            || {
+                ask(&asked, |m| {
+                    b.humidity(m).map_or(0, |h| h.e + h.relative + h.dew)
+                })
+            },
+        );
+    }
     row(
         "pressure, refused 11",
         n,
         || ask(&asked, |m| a.pressure(m - 300).unwrap_or(0)),
         || ask(&asked, |m| b.pressure(m - 300).unwrap_or(0)),
     );
-    let (a, b) = kept(&MM_HG, &asked);
+    let (a, b) = kept(&MM_HG, &WATER, &asked);
     row(
         "pressure, from mm Hg",
         n,
@@ -331,7 +338,7 @@ fn main() {
         "{:42} {:>9} {:>9} {:>9}",
         "ns a call", "proved", "plain", "ratio"
     );
-    let sent = inputs::watch(&HPA, 20_000, 1);
+    let sent = inputs::watch(&HPA, &WATER, 20_000, 1);
     hearing("hear, each minute", &sent);
     let (before, newest) = sent.split_at(sent.len() - 6);
     not_later(8, &sent, &newest.repeat(20_000));
@@ -339,7 +346,7 @@ fn main() {
     for gap in [2, 4, 16, 64, 256, 300, 1000] {
         hearing(
             &format!("hear, every {gap} minutes"),
-            &inputs::watch(&HPA, 5_000, gap),
+            &inputs::watch(&HPA, &WATER, 5_000, gap),
         );
     }
     for count in [1, 16, 256, 2048] {

@@ -1,12 +1,13 @@
 //! One block of memory on each side, from its first zeros on: openings, right and wrong, messages and questions come in any order, so
-//! also before any opening and after those that were refused. What is refused leaves every word as it was.
+//! also before any opening and after those that were refused. What is refused leaves every word as it was. And blocks that no hearing
+//! made: a word of the wet bulb's window says any state.
 
 use reference::station;
 use zhitomrak::raw;
 
 use crate::pair::{independent, message, not_later, Chosen};
 use crate::random::Random;
-use crate::tally::{Answer, Tally};
+use crate::tally::{Answer, Tally, To};
 use crate::watches::chosen;
 
 fn opened(number: u32) -> Answer {
@@ -48,9 +49,9 @@ impl Both {
         }
     }
 
-    /// Compares what a call came to; one that was refused has changed no word.
+    /// Compares what a question came to; one that was refused has changed no word.
     fn same(&self, tally: &mut Tally, kind: &'static str, a: Answer, b: Answer, was: &[u64]) {
-        tally.answers(kind, a, b, || self.told.clone());
+        tally.answers_to(To::Question, kind, a, b, || self.told.clone());
         self.left_alone(tally, b, was);
     }
 
@@ -87,7 +88,8 @@ impl Both {
         );
         let b = chosen.independent(|settings| self.independent.open(settings));
         let b = independent(b, |()| [0; 5]);
-        self.same(tally, "blocks, opened", opened(a), b, &was[..]);
+        tally.answers("blocks, opened", opened(a), b, || self.told.clone());
+        self.left_alone(tally, b, &was[..]);
     }
 
     fn hear(&mut self, tally: &mut Tally, message: &[u8]) {
@@ -96,7 +98,9 @@ impl Both {
         let was = self.proved.clone();
         let a = raw::hear(&mut self.proved, message);
         let b = independent(self.independent.hear(message), |()| [0; 5]);
-        tally.heard("blocks, heard", heard(a), b, || self.told.clone());
+        tally.answers_to(To::Message, "blocks, heard", heard(a), b, || {
+            self.told.clone()
+        });
         self.left_alone(tally, b, &was[..]);
     }
 
@@ -151,10 +155,44 @@ fn reading(r: &mut Random, channel: u8, minute: u32) -> [u8; 16] {
         1 => (12.4, 0.0),
         2 => (8.0, 40.0),
         3 => (10.0, 90.0),
-        4 => (20.0, 0.0),
-        _ => (15.0, 0.0),
+        4 => (r.pick(&[20.0, -5.0]), 0.0),
+        _ => (r.pick(&[15.0, -5.2, -4.9]), r.pick(&[0.0, 1.0, 2.0, 3.0])),
     };
     message(channel, minute, first, second)
+}
+
+/// The word of a minute's wet bulb (docs/FORMAT.md, "The block of a store").
+fn wet_cell(minute: u32) -> usize {
+    22 + 261 * 5 + 5 + minute as usize % 256
+}
+
+/// Blocks whose word of a wet bulb was written over with any state in its second 16 bits: one that there is counts as if a message had
+/// said it, and with one that there is not no wet bulb was heard.
+pub fn other_origin(tally: &mut Tally, r: &mut Random, rounds: u64) {
+    for _ in 0..rounds {
+        let mut both = Both::new();
+        both.open(tally, &chosen(r));
+        let minute = r.pick(&[0, 63, 180, 255, 256, 1_000]);
+        for channel in 0..5 {
+            if !r.once_in(8) {
+                both.hear(tally, &reading(r, channel, minute));
+            }
+        }
+        let any = r.next() as u16;
+        let state = r.pick(&[0, 1, 2, 3, 4, 5, 255, 256, 257, 1 << 15, u16::MAX, any]);
+        let wet = r.pick(&[15.0, -5.2, -4.9]);
+        let water = raw::hear(&mut both.proved, &message(5, minute, wet, 0.0));
+        if water.number == 0 {
+            both.proved[wet_cell(minute)] |= u64::from(state) << 16;
+        }
+        if state <= 2 {
+            let said = message(5, minute, wet, f32::from(state));
+            // not heard where no store was opened
+            let _ = both.independent.hear(&said);
+        }
+        both.told += &format!("wet bulb {wet}, its word with state {state}\n");
+        both.ask(tally, minute);
+    }
 }
 
 pub fn compare(tally: &mut Tally, r: &mut Random, rounds: u64) {

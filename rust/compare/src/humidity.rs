@@ -1,4 +1,5 @@
-//! Humidity of every pair of dry and wet bulb at several pressures, and the dew point of every vapour pressure.
+//! Humidity of every pair of dry and wet bulb at several pressures, for each state of the wet bulb, and the dew point of every vapour
+//! pressure.
 
 use reference::vapour;
 
@@ -16,20 +17,35 @@ const AIRS: [(bool, i32, i32); 6] = [
     (true, 8250, 501),
 ];
 
+/// The kind and the warmest wet bulb that is tried, by state: above 0.0 ice and the unknown are refused whatever else is so.
+const STATES: [(&str, i32); 3] = [
+    ("humidity, water", 500),
+    ("humidity, ice", 2),
+    ("humidity, state unknown", 2),
+];
+
+/// Whether a pair is tried. With water all are; else those that can be answered, since beside a dry bulb more than 2.0 below the wet
+/// one every e is above saturation, and more than 20.0 above it every e is below 0.19; and of the others each whole degree.
+fn tried(state: i32, dry: i32, wet: i32) -> bool {
+    state == 0 || (wet - 20..=wet + 200).contains(&dry) || dry % 10 == 0
+}
+
 pub fn pairs(tally: &mut Tally) {
     for &(mm_hg, reading, psychrometer) in &AIRS {
         let mut chosen = Chosen::plain(mm_hg);
         chosen.psychrometer = psychrometer;
         let mut pair = Pair::open(tally, &chosen).expect("plain settings open");
         let mut minute = 0;
-        for dry in -400..=500 {
-            for wet in -400..=500 {
-                minute += 1;
-                pair.hear(tally, "humidity, heard", &tenths(0, minute, reading, 0));
-                pair.hear(tally, "humidity, heard", &tenths(4, minute, dry, 0));
-                pair.hear(tally, "humidity, heard", &tenths(5, minute, wet, 0));
-                pair.humidity(tally, "humidity, pairs", minute);
-                pair.forget_but(3);
+        for (state, &(kind, warmest)) in (0..).zip(&STATES) {
+            for dry in -400..=500 {
+                for wet in (-400..=warmest).filter(|&wet| tried(state, dry, wet)) {
+                    minute += 1;
+                    pair.hear(tally, "humidity, heard", &tenths(0, minute, reading, 0));
+                    pair.hear(tally, "humidity, heard", &tenths(4, minute, dry, 0));
+                    pair.hear(tally, "humidity, heard", &tenths(5, minute, wet, state));
+                    pair.humidity(tally, kind, minute);
+                    pair.forget_but(3);
+                }
             }
         }
     }

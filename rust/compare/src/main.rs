@@ -40,6 +40,7 @@ fn main() {
     let mut r = Random::new(seed);
     watches::openings(&mut tally, &mut r, 20_000 * times);
     messages::compare(&mut tally, &mut r, 2_500 * times);
+    messages::states(&mut tally);
     messages::repeated_or_late(&mut tally, &mut r, 400 * times);
     watches::compare(&mut tally, &mut r, 100 * times);
     heights::compare(&mut tally);
@@ -49,5 +50,6 @@ fn main() {
     files::compare(&mut tally, &mut r, 10_000 * times);
     files::damage(&mut tally, &mut r, 4 * times);
     blocks::compare(&mut tally, &mut r, 1_000 * times);
+    blocks::other_origin(&mut tally, &mut r, 1_000 * times);
     tally.print();
 }

@@ -1,5 +1,6 @@
 //! Messages: random, damaged, and bent towards every edge of a value. Each is sent beside good readings of the other channels, so
-//! that the questions then show what was kept of it. And messages that are repeated or late, by every edge of how late.
+//! that the questions then show what was kept of it. Every state on every channel. And messages that are repeated or late, by every
+//! edge of how late.
 
 use crate::pair::{barometer, message, not_later, Chosen, Pair, LAST};
 use crate::random::Random;
@@ -103,7 +104,8 @@ fn second_value(r: &mut Random) -> u32 {
 }
 
 fn tried(r: &mut Random, channel: u8, minute: u32, mm_hg: bool) -> Vec<u8> {
-    let mut m = message(channel, minute, 0.0, 0.0);
+    let state = r.pick(&[0.0, 0.0, 1.0, 2.0]);
+    let mut m = message(channel, minute, 0.0, state);
     m[8..12].copy_from_slice(&first_value(r, limits(channel, mm_hg)).to_le_bytes());
     if channel == 2 || channel == 3 || r.once_in(30) {
         m[12..].copy_from_slice(&second_value(r).to_le_bytes());
@@ -123,7 +125,7 @@ fn tried(r: &mut Random, channel: u8, minute: u32, mm_hg: bool) -> Vec<u8> {
         }
         4 => m.truncate(r.below(16) as usize),
         5 => m.extend((0..=r.below(20)).map(|_| r.next() as u8)),
-        6 => m[1] = r.pick(&[0, 1, 2, 255]),
+        6 => m[1] = r.pick(&[0, 1, 2, 3, 255]),
         _ => {}
     }
     m
@@ -148,6 +150,45 @@ pub fn compare(tally: &mut Tally, r: &mut Random, rounds: u64) {
             let m = tried(r, channel, minute, mm_hg);
             pair.hear(tally, "messages, tried", &m);
             pair.ask_all(tally, "messages, what was kept", minute);
+        }
+    }
+}
+
+/// A good message in frost, where water, ice and a state unknown each have a humidity of their own.
+fn frosty(channel: u8, minute: u32) -> [u8; 16] {
+    match channel {
+        4 => message(4, minute, -4.8, 0.0),
+        5 => message(5, minute, -5.0, 0.0),
+        _ => good(channel, minute, false),
+    }
+}
+
+/// What is wrong besides the state: nothing, or what refusal 3, 5, 6 or 7 is for.
+const BESIDES: [fn(&mut [u8; 16]); 5] = [
+    |_| {},
+    |m| m[3] = 1,
+    |m| m[7] = 1,
+    |m| m[8..12].copy_from_slice(&f32::NAN.to_le_bytes()),
+    |m| m[8..12].copy_from_slice(&2000.0f32.to_le_bytes()),
+];
+
+/// Every state on every channel.
+pub fn states(tally: &mut Tally) {
+    let mut pair = Pair::open(tally, &Chosen::plain(false)).expect("plain settings open");
+    let mut minute = 0;
+    for tried in 0..6 {
+        for (state, besides) in (0..=255).flat_map(|state| BESIDES.map(|b| (state, b))) {
+            minute += 1;
+            for channel in 0..6 {
+                let mut m = frosty(channel, minute);
+                if channel == tried {
+                    m[1] = state;
+                    besides(&mut m);
+                }
+                pair.hear(tally, "messages, states", &m);
+            }
+            pair.ask_all(tally, "messages, what was kept", minute);
+            pair.forget_but(6 * 260);
         }
     }
 }

@@ -5,7 +5,7 @@ use reference::{settings, station};
 use zhitomrak::{Point, Refused, Settings, Store, Unit};
 
 use crate::random::Random;
-use crate::tally::{Answer, Tally};
+use crate::tally::{Answer, Tally, To};
 
 /// The last minute there is.
 pub const LAST: u32 = 16_777_215;
@@ -187,14 +187,16 @@ impl Pair {
         self.heard.push(message.to_vec());
         let a = proved(self.proved.hear(message), |()| [0; 5]);
         let b = independent(self.independent.hear(message), |()| [0; 5]);
-        tally.heard(kind, a, b, || self.script(String::new()));
+        tally.answers_to(To::Message, kind, a, b, || self.script(String::new()));
         matches!(b, Answer::Given(_))
     }
 
     pub fn pressure(&self, tally: &mut Tally, kind: &'static str, minute: u32) {
         let a = proved(self.proved.pressure(minute), |p| [p, 0, 0, 0, 0]);
         let b = independent(self.independent.pressure(minute), |p| [p, 0, 0, 0, 0]);
-        tally.answers(kind, a, b, || self.script(format!("pressure {minute}")));
+        tally.answers_to(To::Question, kind, a, b, || {
+            self.script(format!("pressure {minute}"))
+        });
     }
 
     pub fn tendency(&self, tally: &mut Tally, kind: &'static str, minute: u32) {
@@ -204,7 +206,9 @@ impl Pair {
         let b = independent(self.independent.tendency(minute), |t| {
             [t.change, t.absent, 0, 0, 0]
         });
-        tally.answers(kind, a, b, || self.script(format!("tendency {minute}")));
+        tally.answers_to(To::Question, kind, a, b, || {
+            self.script(format!("tendency {minute}"))
+        });
     }
 
     pub fn wind(&self, tally: &mut Tally, kind: &'static str, minute: u32) {
@@ -214,7 +218,9 @@ impl Pair {
         let b = independent(self.independent.wind(minute), |w| {
             [w.speed, w.direction, 0, 0, 0]
         });
-        tally.answers(kind, a, b, || self.script(format!("wind {minute}")));
+        tally.answers_to(To::Question, kind, a, b, || {
+            self.script(format!("wind {minute}"))
+        });
     }
 
     pub fn humidity(&self, tally: &mut Tally, kind: &'static str, minute: u32) {
@@ -224,7 +230,9 @@ impl Pair {
         let b = independent(self.independent.humidity(minute), |h| {
             [h.e, h.saturation, h.deficit, h.relative, h.dew]
         });
-        tally.answers(kind, a, b, || self.script(format!("humidity {minute}")));
+        tally.answers_to(To::Question, kind, a, b, || {
+            self.script(format!("humidity {minute}"))
+        });
     }
 
     pub fn ask_all(&self, tally: &mut Tally, kind: &'static str, minute: u32) {
@@ -242,14 +250,17 @@ impl Pair {
     }
 }
 
-/// A message: channel, minute and two values, little endian.
+/// A message: channel, minute and two values, little endian. The second is a direction on channels 2 and 3, the state on channel 5,
+/// and on the others there is none.
 pub fn message(channel: u8, minute: u32, first: f32, second: f32) -> [u8; 16] {
     let mut m = [0; 16];
     m[0] = channel;
     m[4..8].copy_from_slice(&minute.to_le_bytes());
     m[8..12].copy_from_slice(&first.to_le_bytes());
-    if channel == 2 || channel == 3 {
-        m[12..].copy_from_slice(&second.to_le_bytes());
+    match channel {
+        2 | 3 => m[12..].copy_from_slice(&second.to_le_bytes()),
+        5 => m[1] = second as u8,
+        _ => {}
     }
     m
 }
@@ -265,7 +276,7 @@ pub fn not_later(r: &mut Random, newest: u32) -> u32 {
     newest.saturating_sub(r.pick(&EARLIER))
 }
 
-/// A message whose values are whole tenths, and whole degrees.
+/// A message whose values are whole tenths, and whole degrees or a state.
 pub fn tenths(channel: u8, minute: u32, first: i32, second: i32) -> [u8; 16] {
     message(channel, minute, first as f32 / 10.0, second as f32)
 }

@@ -10,8 +10,18 @@ pub enum Answer {
     Refused(u32, usize, usize),
 }
 
-/// The refusals that a message can get from an opened store.
-const OF_MESSAGES: [u32; 9] = [1, 2, 3, 4, 5, 6, 7, 8, 19];
+/// What a store answers.
+#[derive(Clone, Copy)]
+pub enum To {
+    Message,
+    Question,
+}
+
+/// The refusals that messages can get from an opened store, and those that questions can.
+const REFUSALS: [(&str, [u32; 9]); 2] = [
+    ("messages", [1, 2, 3, 4, 5, 6, 7, 8, 19]),
+    ("questions", [5, 11, 12, 13, 14, 15, 20, 21, 22]),
+];
 
 #[derive(Default)]
 struct Count {
@@ -23,7 +33,7 @@ pub struct Tally {
     seed: u64,
     only: Option<String>,
     counts: BTreeMap<&'static str, Count>,
-    messages: BTreeMap<u32, u64>,
+    refused: [BTreeMap<u32, u64>; 2],
 }
 
 impl Tally {
@@ -33,7 +43,7 @@ impl Tally {
             seed,
             only,
             counts: BTreeMap::new(),
-            messages: BTreeMap::new(),
+            refused: Default::default(),
         }
     }
 
@@ -87,34 +97,37 @@ impl Tally {
         );
     }
 
-    /// The same of what a message came to, which is counted by its number too.
+    /// The same of what a message or a question came to, which is counted by its number too.
     #[inline]
-    pub fn heard(
+    pub fn answers_to(
         &mut self,
+        to: To,
         kind: &'static str,
         proved: Answer,
         independent: Answer,
         input: impl FnOnce() -> String,
     ) {
         if let (Answer::Refused(number, ..), false) = (independent, self.leaves_out(kind)) {
-            *self.messages.entry(number).or_default() += 1;
+            *self.refused[to as usize].entry(number).or_default() += 1;
         }
         self.answers(kind, proved, independent, input);
     }
 
-    /// Ends the run as failed where a refusal of messages was never met: nothing was compared there.
+    /// Ends the run as failed where a refusal of messages or of questions was never met: nothing was compared there.
     pub fn print(&self) {
         println!("{:26} {:>12} {:>12}", "", "compared", "refused");
         for (kind, count) in &self.counts {
             println!("{kind:26} {:>12} {:>12}", count.compared, count.refused);
         }
-        let numbers = self.messages.iter();
-        let numbers: Vec<String> = numbers.map(|(n, count)| format!("{n}: {count}")).collect();
-        println!("messages refused, by number: {}", numbers.join(", "));
-        let never = |number: &&u32| !self.messages.contains_key(number);
-        if let (Some(number), None) = (OF_MESSAGES.iter().find(never), &self.only) {
-            println!("no message was refused {number}");
-            std::process::exit(1);
+        for ((sort, all), met) in REFUSALS.iter().zip(&self.refused) {
+            let numbers = met.iter().map(|(n, count)| format!("{n}: {count}"));
+            let numbers: Vec<String> = numbers.collect();
+            println!("{sort} refused, by number: {}", numbers.join(", "));
+            let never = |number: &&u32| !met.contains_key(number);
+            if let (Some(number), None) = (all.iter().find(never), &self.only) {
+                println!("none of the {sort} was refused {number}");
+                std::process::exit(1);
+            }
         }
         let total: u64 = self.counts.values().map(|count| count.compared).sum();
         println!(

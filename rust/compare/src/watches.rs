@@ -79,7 +79,7 @@ impl Ship {
         }
     }
 
-    /// A reading that the instruments could have.
+    /// A reading that the instruments could have; now and then a state that is none.
     fn reading(&self, r: &mut Random, channel: u8) -> (i32, i32) {
         match channel {
             0 if r.once_in(12) => {
@@ -91,16 +91,23 @@ impl Ship {
             2 => (r.within(0, 750), r.within(0, 360)),
             3 => (r.within(0, 400), r.within(0, 360)),
             4 => (r.within(-400, 500), 0),
-            _ => (r.within(-400, 500), 0),
+            _ => (r.within(-400, 500), r.within(0, 3)),
         }
     }
 
-    /// Dry and wet bulb mostly go together: the wet one a little lower.
+    /// Dry and wet bulb mostly go together: the wet one a little lower. In frost it may be iced, or nobody looked, and then it may
+    /// stand a little higher.
     fn bulbs(&mut self, tally: &mut Tally, r: &mut Random) {
-        let dry = r.within(-400, 500);
-        let wet = (dry - r.below(60) as i32).max(-400);
+        let (state, coldest, warmest, higher) = r.pick(&[
+            (0, -400, 500, 0),
+            (0, -400, 500, 0),
+            (1, -400, 5, 5),
+            (2, -105, 5, 5),
+        ]);
+        let dry = r.within(coldest, warmest);
+        let wet = (dry + r.within(-59, higher)).max(-400);
         self.send(tally, 4, self.clock, (dry, 0));
-        self.send(tally, 5, self.clock, (wet, 0));
+        self.send(tally, 5, self.clock, (wet, state));
     }
 
     fn send(&mut self, tally: &mut Tally, channel: u8, minute: u32, (first, second): (i32, i32)) {

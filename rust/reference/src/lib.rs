@@ -1,5 +1,5 @@
 //! A ship's weather station in plain Rust, written from the documents alone:
-//! 01, as W1 of 02 changes it.
+//! 01, as W1 to W3 of 02 change it.
 //!
 //! Readings come in as messages, are kept by minute, and are worked into four
 //! kinds of answer: pressure, tendency, true wind, humidity. Answers are stored

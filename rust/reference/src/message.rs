@@ -45,6 +45,41 @@ pub struct ShipMotion {
     pub course: i16,
 }
 
+/// What is on the wet bulb: a message's state.
+#[derive(Clone, Copy, Debug, Default, PartialEq, Eq)]
+pub enum BulbState {
+    /// 0.
+    #[default]
+    Water,
+    /// 1.
+    Ice,
+    /// 2: nobody looked.
+    Unknown,
+}
+
+impl BulbState {
+    /// The state that a message's byte says, or nothing for one above 2.
+    #[inline]
+    pub const fn of(byte: u8) -> Option<BulbState> {
+        Some(match byte {
+            0 => BulbState::Water,
+            1 => BulbState::Ice,
+            2 => BulbState::Unknown,
+            _ => return None,
+        })
+    }
+}
+
+/// Wet bulb as kept: "the state belongs to the wet bulb's reading and is kept with
+/// it".
+#[derive(Clone, Copy, Debug, Default, PartialEq, Eq)]
+pub struct WetBulb {
+    /// Tenths °C.
+    pub temperature: i16,
+    /// What is on it.
+    pub state: BulbState,
+}
+
 /// "A message is one of six kinds": the values kept, by channel.
 #[derive(Clone, Copy, Debug, PartialEq, Eq)]
 pub enum Reading {
@@ -58,8 +93,8 @@ pub enum Reading {
     ShipMotion(ShipMotion),
     /// Channel 4, tenths °C.
     DryBulb(i16),
-    /// Channel 5, tenths °C.
-    WetBulb(i16),
+    /// Channel 5.
+    WetBulb(WetBulb),
 }
 
 /// A message that passed tests 1 to 7.
@@ -91,21 +126,28 @@ pub fn receive(bytes: &[u8], unit: Unit) -> Result<Message, Refused> {
     if state_wrong || bytes[2] != 0 || bytes[3] != 0 || (!pair && second != 0) {
         return Err(Refused::NotZero);
     }
-    if state != 0 {
-        return Err(Refused::NotWater);
-    }
+    // On the other channels the state is 0 here.
+    let state = BulbState::of(state).ok_or(Refused::NoSuchState)?;
     if minute > LAST_MINUTE {
         return Err(Refused::MinuteTooLate);
     }
     if !finite(first) || !finite(second) {
         return Err(Refused::NotFinite);
     }
-    let reading = within_limits(channel, first, second, unit).ok_or(Refused::OutsideLimits)?;
+    let reading =
+        within_limits(channel, state, first, second, unit).ok_or(Refused::OutsideLimits)?;
     Ok(Message { minute, reading })
 }
 
-/// The reading of a channel from 0 to 5 with its limits tested after rounding.
-fn within_limits(channel: u8, first: u32, second: u32, unit: Unit) -> Option<Reading> {
+/// The reading of a channel from 0 to 5 with its limits tested after rounding. They
+/// are the same for every state.
+fn within_limits(
+    channel: u8,
+    state: BulbState,
+    first: u32,
+    second: u32,
+    unit: Unit,
+) -> Option<Reading> {
     Some(match channel {
         0 => Reading::Barometer(inside(barometer(unit), tenths(first))?),
         1 => Reading::Wheelhouse(inside(WHEELHOUSE, tenths(first))?),
@@ -118,7 +160,10 @@ fn within_limits(channel: u8, first: u32, second: u32, unit: Unit) -> Option<Rea
             course: direction(second)?,
         }),
         4 => Reading::DryBulb(inside(BULB, tenths(first))?),
-        _ => Reading::WetBulb(inside(BULB, tenths(first))?),
+        _ => Reading::WetBulb(WetBulb {
+            temperature: inside(BULB, tenths(first))?,
+            state,
+        }),
     })
 }
 
@@ -292,8 +337,14 @@ mod tests {
             for at in [2, 3] {
                 assert_eq!(damaged(channel, &[(at, 1)]), Err(3));
             }
-            let state = if channel == 5 { 4 } else { 3 };
-            assert_eq!(damaged(channel, &[(1, 1)]), Err(state));
+            for state in 1..=255 {
+                let refused = match (channel, state) {
+                    (5, 1 | 2) => None,
+                    (5, _) => Some(4),
+                    _ => Some(3),
+                };
+                assert_eq!(damaged(channel, &[(1, state)]).err(), refused);
+            }
             let pair = channel == 2 || channel == 3;
             for at in 12..15 {
                 // The least significant bytes of a direction only make it tiny.
@@ -310,13 +361,30 @@ mod tests {
 
     #[test]
     fn the_earlier_test_refuses() {
-        assert_eq!(damaged(5, &[(1, 1), (2, 1)]), Err(3));
-        assert_eq!(damaged(5, &[(1, 1), (7, 1)]), Err(4));
+        assert_eq!(damaged(5, &[(1, 3), (2, 1)]), Err(3));
+        assert_eq!(damaged(5, &[(1, 3), (7, 1)]), Err(4));
+        assert_eq!(damaged(5, &[(1, 1), (7, 1)]), Err(5));
         assert_eq!(damaged(5, &[(7, 1), (10, 0x80), (11, 0x7f)]), Err(5));
         assert_eq!(heard(2, -1.0, f32::NAN), Err(6));
         assert_eq!(heard(3, f32::NAN, 400.0), Err(6));
         // Zero bytes mean bytes: negative zero is not four of them.
         assert_eq!(heard(4, 5.0, -0.0), Err(3));
+    }
+
+    #[test]
+    fn a_state_is_kept_whatever_the_temperature() {
+        let states = [BulbState::Water, BulbState::Ice, BulbState::Unknown];
+        for (byte, state) in (0..).zip(states) {
+            for (value, temperature) in [(-40.0, -400), (0.0, 0), (0.1, 1), (50.0, 500)] {
+                let mut message = bytes(5, 7, value, 0.0);
+                message[1] = byte;
+                let reading = Reading::WetBulb(WetBulb { temperature, state });
+                let kept = receive(&message, Unit::HPa).map(|message| message.reading);
+                assert_eq!(kept, Ok(reading));
+            }
+            let outside = [(1, byte), (10, 0x49), (11, 0x42)]; // 50.25 °C
+            assert_eq!(damaged(5, &outside), Err(7));
+        }
     }
 
     #[test]

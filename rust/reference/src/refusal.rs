@@ -11,8 +11,8 @@ pub enum Refused {
     UnknownChannel,
     /// 3: a byte that must be zero isn't (state too, except on channel 5).
     NotZero,
-    /// 4: wet-bulb state not 0, water.
-    NotWater,
+    /// 4: "a state above 2".
+    NoSuchState,
     /// 5: minute above 16,777,215, sent or asked.
     MinuteTooLate,
     /// 6: infinite or not a number.
@@ -42,8 +42,14 @@ pub enum Refused {
         /// The minute of that reading.
         minute: u32,
     },
-    /// 13: wet bulb above dry bulb.
+    /// 13: wet bulb above dry bulb; "13 is for water only".
     WetAboveDry,
+    /// 20: "state 1 or 2 with wet bulb above 0.0".
+    TooWarmForIce,
+    /// 21: "unknown outside its air range".
+    UnknownOutsideRange,
+    /// 22: "e above saturation over water at dry".
+    AboveSaturation,
     /// 14: tendency asked for a minute below 180.
     NoThreeHours,
     /// 15: e below 0.19 hPa.
@@ -77,7 +83,7 @@ impl Refused {
             Refused::MessageLength => 1,
             Refused::UnknownChannel => 2,
             Refused::NotZero => 3,
-            Refused::NotWater => 4,
+            Refused::NoSuchState => 4,
             Refused::MinuteTooLate => 5,
             Refused::NotFinite => 6,
             Refused::OutsideLimits => 7,
@@ -88,6 +94,9 @@ impl Refused {
             Refused::Absent { .. } => 11,
             Refused::OutsideCertificate { .. } => 12,
             Refused::WetAboveDry => 13,
+            Refused::TooWarmForIce => 20,
+            Refused::UnknownOutsideRange => 21,
+            Refused::AboveSaturation => 22,
             Refused::NoThreeHours => 14,
             Refused::TooDry => 15,
             Refused::Record { .. } => 16,
@@ -126,7 +135,7 @@ mod tests {
             (Refused::MessageLength, "refused 1"),
             (Refused::UnknownChannel, "refused 2"),
             (Refused::NotZero, "refused 3"),
-            (Refused::NotWater, "refused 4"),
+            (Refused::NoSuchState, "refused 4"),
             (Refused::MinuteTooLate, "refused 5"),
             (Refused::NotFinite, "refused 6"),
             (Refused::OutsideLimits, "refused 7"),
@@ -137,6 +146,9 @@ mod tests {
             (Refused::Absent { channel, minute }, "refused 11 4 220"),
             (Refused::OutsideCertificate { minute }, "refused 12 220"),
             (Refused::WetAboveDry, "refused 13"),
+            (Refused::TooWarmForIce, "refused 20"),
+            (Refused::UnknownOutsideRange, "refused 21"),
+            (Refused::AboveSaturation, "refused 22"),
             (Refused::NoThreeHours, "refused 14"),
             (Refused::TooDry, "refused 15"),
             (Refused::Record { index: 48 }, "refused 16 48"),

@@ -1,7 +1,7 @@
 //! What a ship calls: open a store, hear messages, ask the four questions.
 
-use crate::humidity::{humidity_by, Humidity};
-use crate::message::{self, ApparentWind, Reading, ShipMotion, LAST_MINUTE};
+use crate::humidity::{Humidity, Psychrometer};
+use crate::message::{self, ApparentWind, Reading, ShipMotion, WetBulb, LAST_MINUTE};
 use crate::pressure::{self, Tendency};
 use crate::refusal::Refused;
 use crate::settings::{Instruments, Settings};
@@ -19,7 +19,7 @@ pub struct Store {
     apparent_wind: Window<ApparentWind>,
     ship_motion: Window<ShipMotion>,
     dry_bulb: Window<i16>,
-    wet_bulb: Window<i16>,
+    wet_bulb: Window<WetBulb>,
     rose: &'static Rose,
     vapour: &'static Vapour,
 }
@@ -97,22 +97,23 @@ impl Store {
         ))
     }
 
-    /// Humidity at a minute; refusals 5, 11, 12, 13, 15.
+    /// Humidity at a minute; refusals 5, 11, 12, 13, 20, 21, 22, 15.
     #[inline]
     pub fn humidity(&self, minute: u32) -> Result<Humidity, Refused> {
         asked(minute)?;
         let barometer = heard(&self.barometer, 0, minute)?;
-        let dry = i32::from(heard(&self.dry_bulb, 4, minute)?);
-        let wet = i32::from(heard(&self.wet_bulb, 5, minute)?);
+        let dry = heard(&self.dry_bulb, 4, minute)?;
+        let wet = heard(&self.wet_bulb, 5, minute)?;
         let pressure = pressure::station(&self.instruments, i32::from(barometer))
             .ok_or(Refused::OutsideCertificate { minute })?;
-        humidity_by(
-            self.vapour,
-            dry,
-            wet,
+        Psychrometer {
+            dry: i32::from(dry),
+            wet: i32::from(wet.temperature),
+            state: wet.state,
             pressure,
-            self.instruments.psychrometer,
-        )
+            coefficient: self.instruments.psychrometer,
+        }
+        .humidity(self.vapour)
     }
 
     /// Barometer and wheelhouse temperature of a minute, or refusal 11.

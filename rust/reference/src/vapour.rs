@@ -1,15 +1,18 @@
-//! Saturation pressure over water and the dew point.
+//! Saturation pressure over water and over ice, and the dew point.
 //!
-//! Saturation at t °C is 6.1121 exp(17.5043 t / (241.2 + t)) hPa. Both tables
-//! come from one enclosure of it, by the series of the exponential with every
-//! term rounded down for the low end and up for the high end.
+//! Saturation at t °C is 6.1121 exp(17.5043 t / (241.2 + t)) hPa over water and
+//! 6.1121 exp(22.4893 t / (272.881 + t)) hPa over ice. All tables come from one
+//! enclosure of both, by the series of the exponential with every term rounded
+//! down for the low end and up for the high end.
 
 use std::sync::OnceLock;
 
 /// The lowest temperature of the tables, tenths °C.
 pub const COLDEST: i32 = -400;
-/// The highest temperature of the tables, tenths °C.
+/// The highest temperature of the tables over water, tenths °C.
 pub const WARMEST: i32 = 500;
+/// The highest temperature of the table over ice, tenths °C.
+pub const WARMEST_ICE: i32 = 0;
 /// "e below 0.19 hPa" is refused: the least e, hundredths of hPa.
 pub const LEAST_VAPOUR: i32 = 19;
 /// Saturation at 50.0 °C, the greatest e there can be, hundredths of hPa.
@@ -17,6 +20,8 @@ pub const MOST_VAPOUR: i32 = 12345;
 
 /// "One table for -40.0 to 50.0 °C by tenths, 901 entries."
 const ENTRIES: usize = (WARMEST - COLDEST) as usize + 1;
+/// "The ice table has 401 entries, -40.0 to 0.0."
+const ICE_ENTRIES: usize = (WARMEST_ICE - COLDEST) as usize + 1;
 
 /// A fraction.
 #[derive(Clone, Copy, Debug)]
@@ -77,70 +82,113 @@ fn exponential(y: Fraction) -> (u128, u128) {
     (low_sum, high_sum + high)
 }
 
-/// Saturation in hundredths of hPa at a temperature in twentieths of a degree.
-///
-/// 17.5043 t / (241.2 + t) is 175043 n / (10000 (4824 + n)) for n twentieths.
-/// "For negative exponents it is the reciprocal."
-fn exact_saturation(twentieths: i32) -> Enclosure {
-    let y = Fraction {
-        over: 175_043 * u128::from(twentieths.unsigned_abs()),
-        under: 10_000 * u128::from((4824 + twentieths).unsigned_abs()),
-    };
-    let (low, high) = exponential(y);
-    // 6.1121 hPa is 61121 / 100 hundredths.
-    let grown = |by: u128| Fraction {
-        over: 61_121 * by,
-        under: 100 * ONE,
-    };
-    let shrunk = |by: u128| Fraction {
-        over: 61_121 * ONE,
-        under: 100 * by,
-    };
-    if twentieths >= 0 {
-        Enclosure {
-            low: grown(low),
-            high: grown(high),
+/// A formula of saturation: 6.1121 exp(alpha t / (beta + t)) hPa at t °C.
+#[derive(Clone, Copy, Debug)]
+struct Formula {
+    /// In ten-thousandths.
+    alpha: u128,
+    /// In thousandths of a degree.
+    beta: i32,
+}
+
+/// "17.5043 t / (241.2 + t)" (004, formula 14).
+const OVER_WATER: Formula = Formula {
+    alpha: 175_043,
+    beta: 241_200,
+};
+/// "22.4893, 272.881" (004, formula 14a).
+const OVER_ICE: Formula = Formula {
+    alpha: 224_893,
+    beta: 272_881,
+};
+
+impl Formula {
+    /// Saturation in hundredths of hPa at a temperature in thousandths of a degree.
+    /// "For negative exponents it is the reciprocal."
+    fn exact(self, thousandths: i32) -> Enclosure {
+        let y = Fraction {
+            over: self.alpha * u128::from(thousandths.unsigned_abs()),
+            under: 10_000 * u128::from((self.beta + thousandths).unsigned_abs()),
+        };
+        let (low, high) = exponential(y);
+        // 6.1121 hPa is 61121 / 100 hundredths.
+        let grown = |by: u128| Fraction {
+            over: 61_121 * by,
+            under: 100 * ONE,
+        };
+        let shrunk = |by: u128| Fraction {
+            over: 61_121 * ONE,
+            under: 100 * by,
+        };
+        if thousandths >= 0 {
+            Enclosure {
+                low: grown(low),
+                high: grown(high),
+            }
+        } else {
+            Enclosure {
+                low: shrunk(high),
+                high: shrunk(low),
+            }
         }
-    } else {
-        Enclosure {
-            low: shrunk(high),
-            high: shrunk(low),
-        }
+    }
+
+    /// So many entries by tenths of a degree from the coldest on, so many thousandths
+    /// beside each tenth.
+    fn by_tenths<const N: usize>(self, beside: i32, rounding: fn(Fraction) -> u128) -> [u16; N] {
+        std::array::from_fn(|entry| {
+            let tenths = COLDEST + entry as i32;
+            self.exact(100 * tenths + beside).decided(rounding)
+        })
     }
 }
 
-/// The saturation table and the dew point of every e.
+/// The saturation tables and the dew point of every e.
 #[derive(Clone, Debug)]
 pub struct Vapour {
-    saturation: [u16; ENTRIES],
+    over_water: [u16; ENTRIES],
+    over_ice: [u16; ICE_ENTRIES],
     dew: [i16; MOST_VAPOUR as usize + 1],
 }
 
 impl Vapour {
     fn work_out() -> Vapour {
-        let saturation = std::array::from_fn(|entry| {
-            exact_saturation(2 * (COLDEST + entry as i32)).decided(Fraction::nearest)
-        });
         // The least e at or above exact saturation at T - 0.05, for each tenth T,
         // and for the tenth behind the last.
-        let least: [u16; ENTRIES + 1] = std::array::from_fn(|entry| {
-            exact_saturation(2 * (COLDEST + entry as i32) - 1).decided(Fraction::ceiling)
-        });
+        let least: [u16; ENTRIES + 1] = OVER_WATER.by_tenths(-50, Fraction::ceiling);
         assert!(i32::from(least[0]) <= LEAST_VAPOUR && MOST_VAPOUR < i32::from(least[ENTRIES]));
         let dew = std::array::from_fn(|e| {
             let reached = least.partition_point(|least| usize::from(*least) <= e);
             (COLDEST - 1 + reached as i32) as i16
         });
-        Vapour { saturation, dew }
+        Vapour {
+            over_water: OVER_WATER.by_tenths(0, Fraction::nearest),
+            over_ice: OVER_ICE.by_tenths(0, Fraction::nearest),
+            dew,
+        }
     }
 
-    /// Saturation; see [`saturation`].
+    /// Saturation pressure over water, hundredths of hPa, at tenths °C from -40.0 to
+    /// 50.0: "each entry lies within half a hundredth of the exact value".
+    ///
+    /// # Panics
+    /// Outside the table.
     #[inline]
-    pub fn saturation(&self, temperature: i32) -> i32 {
-        i32::from(self.saturation[(temperature - COLDEST) as usize])
+    pub fn over_water(&self, temperature: i32) -> i32 {
+        i32::from(self.over_water[(temperature - COLDEST) as usize])
     }
 
-    /// Dew point; see [`dew_point`].
+    /// The same over ice, from -40.0 to 0.0.
+    ///
+    /// # Panics
+    /// Outside the table.
+    #[inline]
+    pub fn over_ice(&self, temperature: i32) -> i32 {
+        i32::from(self.over_ice[(temperature - COLDEST) as usize])
+    }
+
+    /// "Dew point: the tenth T with exact saturation at T - 0.05 ≤ e < exact
+    /// saturation at T + 0.05", for e of 19 to 12345 hundredths of hPa.
     #[inline]
     pub fn dew_point(&self, e: i32) -> Option<i32> {
         if !(LEAST_VAPOUR..=MOST_VAPOUR).contains(&e) {
@@ -156,17 +204,7 @@ pub fn vapour() -> &'static Vapour {
     VAPOUR.get_or_init(Vapour::work_out)
 }
 
-/// Saturation pressure, hundredths of hPa, at tenths °C from -40.0 to 50.0: "each
-/// entry lies within half a hundredth of the exact value".
-///
-/// # Panics
-/// Outside the table.
-pub fn saturation(temperature: i32) -> i32 {
-    vapour().saturation(temperature)
-}
-
-/// "Dew point: the tenth T with exact saturation at T - 0.05 ≤ e < exact
-/// saturation at T + 0.05", for e of 19 to 12345 hundredths of hPa.
+/// The dew point of an e; see [`Vapour::dew_point`].
 pub fn dew_point(e: i32) -> Option<i32> {
     vapour().dew_point(e)
 }
@@ -175,28 +213,36 @@ pub fn dew_point(e: i32) -> Option<i32> {
 mod tests {
     use super::*;
 
-    fn by_binary64(celsius: f64) -> f64 {
-        611.21 * (17.5043 * celsius / (241.2 + celsius)).exp()
+    /// Alpha, beta in °C.
+    const WATER: (f64, f64) = (17.5043, 241.2);
+    const ICE: (f64, f64) = (22.4893, 272.881);
+
+    fn by_binary64((alpha, beta): (f64, f64), celsius: f64) -> f64 {
+        611.21 * (alpha * celsius / (beta + celsius)).exp()
     }
 
     #[test]
     fn every_enclosure_is_narrow_and_in_its_place() {
-        for twentieths in -801..=1001 {
-            let Enclosure { low, high } = exact_saturation(twentieths);
-            let value = |f: Fraction| f.over as f64 / f.under as f64;
-            let exact = by_binary64(f64::from(twentieths) / 20.0);
-            assert!((value(low) / exact - 1.0).abs() < 1e-12, "{twentieths}");
-            assert!((value(high) / exact - 1.0).abs() < 1e-12, "{twentieths}");
-            let (low_end, high_end) = if twentieths < 0 {
-                (high.under, low.under)
-            } else {
-                (low.over, high.over)
-            };
-            assert!(low_end <= high_end);
-            assert!(
-                high_end - low_end < ONE / 1_000_000_000_000_000,
-                "{twentieths}"
-            );
+        for (formula, constants, twentieths) in
+            [(OVER_WATER, WATER, -801..=1001), (OVER_ICE, ICE, -800..=0)]
+        {
+            for twentieths in twentieths {
+                let Enclosure { low, high } = formula.exact(50 * twentieths);
+                let value = |f: Fraction| f.over as f64 / f.under as f64;
+                let exact = by_binary64(constants, f64::from(twentieths) / 20.0);
+                assert!((value(low) / exact - 1.0).abs() < 1e-12, "{twentieths}");
+                assert!((value(high) / exact - 1.0).abs() < 1e-12, "{twentieths}");
+                let (low_end, high_end) = if twentieths < 0 {
+                    (high.under, low.under)
+                } else {
+                    (low.over, high.over)
+                };
+                assert!(low_end <= high_end);
+                assert!(
+                    high_end - low_end < ONE / 1_000_000_000_000_000,
+                    "{twentieths}"
+                );
+            }
         }
     }
 
@@ -209,17 +255,36 @@ mod tests {
         assert_eq!(low, ONE);
     }
 
+    /// A table never falls, and each entry is the nearest hundredth.
+    fn is_saturation(table: &[u16], constants: (f64, f64)) {
+        assert!(table.windows(2).all(|pair| pair[0] <= pair[1]));
+        for (entry, tenths) in table.iter().zip(COLDEST..) {
+            let exact = by_binary64(constants, f64::from(tenths) / 10.0);
+            assert!((f64::from(*entry) - exact).abs() < 0.500_001, "{tenths}");
+        }
+    }
+
     #[test]
-    fn the_table_rises_from_0_19_to_123_45() {
-        assert_eq!(saturation(-400), 19);
-        assert_eq!(saturation(0), 611);
-        assert_eq!(saturation(150), 1703);
-        assert_eq!(saturation(200), 2335);
-        assert_eq!(saturation(500), MOST_VAPOUR);
-        for temperature in COLDEST..WARMEST {
-            assert!(saturation(temperature) <= saturation(temperature + 1));
-            let exact = by_binary64(f64::from(temperature) / 10.0);
-            assert!((f64::from(saturation(temperature)) - exact).abs() < 0.500_001);
+    fn the_table_over_water_rises_from_0_19_to_123_45() {
+        let tables = vapour();
+        is_saturation(&tables.over_water, WATER);
+        for (tenths, entry) in [(-400, 19), (-100, 287), (0, 611), (150, 1703), (200, 2335)] {
+            assert_eq!(tables.over_water(tenths), entry);
+        }
+        assert_eq!(tables.over_water(WARMEST), MOST_VAPOUR);
+    }
+
+    #[test]
+    fn the_table_over_ice_rises_from_0_13_to_6_11() {
+        let tables = vapour();
+        is_saturation(&tables.over_ice, ICE);
+        assert_eq!(tables.over_ice.len(), 401);
+        for (tenths, entry) in [(-400, 13), (-100, 260), (-1, 606), (0, 611)] {
+            assert_eq!(tables.over_ice(tenths), entry);
+        }
+        // Ice holds no more vapour than water of the same cold.
+        for tenths in COLDEST..=WARMEST_ICE {
+            assert!(tables.over_ice(tenths) <= tables.over_water(tenths));
         }
     }
 
@@ -227,7 +292,7 @@ mod tests {
     fn every_dew_point_keeps_its_rule() {
         for e in LEAST_VAPOUR..=MOST_VAPOUR {
             let tenths = f64::from(dew_point(e).unwrap());
-            let at = |tenths: f64| by_binary64(tenths / 10.0);
+            let at = |tenths: f64| by_binary64(WATER, tenths / 10.0);
             assert!(at(tenths - 0.5) <= f64::from(e), "{e}");
             assert!(f64::from(e) < at(tenths + 0.5), "{e}");
         }

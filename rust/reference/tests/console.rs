@@ -39,6 +39,26 @@ fn a_watch() {
 }
 
 #[test]
+fn an_iced_bulb() {
+    let script = [
+        OPEN,
+        "hear 00000000640000000000794400000000\n", // 996.0 hPa at minute 100
+        "hear 0401000064000000000020c100000000\n", // the dry bulb has no state
+        "hear 0400000064000000000020c100000000\n", // -10.0 °C
+        "hear 0503000064000000000020c100000000\n", // a state above 2
+        "hear 0501000064000000000020c100000000\n", // ice
+        "humidity 100\n",
+        "hear 00000000650000000000794400000000\n",
+        "hear 0400000065000000000020c100000000\n",
+        "hear 0502000065000000000020c100000000\n", // unknown
+        "humidity 101\n",
+    ];
+    let expected = "open\nheard\nrefused 3\nheard\nrefused 4\nheard\nH 100 260 287 27 91 -112\n\
+        heard\nheard\nheard\nrefused 21\n";
+    assert_eq!(answers(&script.concat()), expected);
+}
+
+#[test]
 fn a_refused_open_keeps_the_store_and_a_good_one_starts_empty() {
     let script = [
         OPEN,

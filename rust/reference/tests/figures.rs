@@ -2,10 +2,12 @@
 
 mod ship;
 
-use reference::humidity::{humidity, Humidity};
+use reference::humidity::{Humidity, Psychrometer};
+use reference::message::BulbState;
 use reference::pressure::Tendency;
 use reference::refusal::Refused;
 use reference::settings::Unit;
+use reference::vapour::vapour;
 use reference::wind::{true_wind, Wind};
 use ship::Ship;
 
@@ -68,19 +70,36 @@ fn humidities() {
         relative: 100,
         dew: -399,
     };
-    for (dry, wet, expected) in [
-        (20.0, 15.0, Ok(warm)),
-        (0.0, 0.0, Ok(freezing)),
-        (-40.0, -40.0, Ok(coldest)),
-        (30.0, 5.0, Err(Refused::TooDry)),
+    // "It must give 2.60 hPa at -10.0", which is 91 % (004, appendix В).
+    let iced = Humidity {
+        e: 260,
+        saturation: 287,
+        deficit: 27,
+        relative: 91,
+        dew: -112,
+    };
+    for (dry, state, wet, expected) in [
+        (20.0, 0, 15.0, Ok(warm)),
+        (0.0, 0, 0.0, Ok(freezing)),
+        (-40.0, 0, -40.0, Ok(coldest)),
+        (30.0, 0, 5.0, Err(Refused::TooDry)),
+        (-10.0, 1, -10.0, Ok(iced)),
+        (0.0, 1, 0.0, Ok(freezing)),
+        (0.0, 2, 0.0, Ok(freezing)),
     ] {
         let mut ship = Ship::plain();
         ship.says(0, 9, 1000.0);
-        ship.says(4, 9, dry);
-        ship.says(5, 9, wet);
+        ship.says_bulbs(9, dry, state, wet);
         assert_eq!(ship.store.humidity(9), expected);
         let [dry, wet] = [dry, wet].map(|value: f32| (value * 10.0) as i32);
-        assert_eq!(humidity(dry, wet, 10000, 662), expected);
+        let air = Psychrometer {
+            dry,
+            wet,
+            state: BulbState::of(state).expect("a state"),
+            pressure: 10000,
+            coefficient: 662,
+        };
+        assert_eq!(air.humidity(vapour()), expected);
     }
 }
 

@@ -7,7 +7,7 @@ use reference::pressure::Tendency;
 use reference::refusal::Refused;
 use reference::settings::{Settings, Unit};
 use reference::station::Store;
-use ship::{message, Ship};
+use ship::{message, wet_bulb, Ship};
 
 fn absent(channel: u8, minute: u32) -> Refused {
     Refused::Absent { channel, minute }
@@ -82,9 +82,61 @@ fn wind_and_humidity_look_at_their_own_channels() {
     let outside = Refused::OutsideCertificate { minute: 9 };
     assert_eq!(ship.store.humidity(9), Err(outside));
     ship.says(0, 10, 950.0);
-    ship.says(4, 10, 5.0);
-    ship.says(5, 10, 5.1);
+    ship.says_bulbs(10, 5.0, 0, 5.1);
     assert_eq!(ship.store.humidity(10), Err(Refused::WetAboveDry));
+}
+
+#[test]
+fn humidity_tests_the_state_after_12_and_before_15() {
+    let mut ship = Ship::open(Unit::HPa, 0, 0, 0, &[(9000, 0), (10000, 0)]);
+    for (minute, pressure, dry, state, wet, number) in [
+        (10, 1000.1, 0.0, 2, 0.1, 12),
+        (11, 1000.0, 5.0, 0, 5.1, 13),
+        (12, 1000.0, 0.0, 1, 0.1, 20),
+        (13, 1000.0, 0.1, 2, 0.1, 20),
+        (14, 1000.0, 0.1, 2, 0.0, 21),
+        (15, 1000.0, -10.0, 2, 0.0, 21),
+        (16, 1000.0, -10.0, 1, 0.0, 22),
+        (17, 1000.0, -9.9, 2, 0.0, 22),
+        (18, 1000.0, -40.0, 1, -40.0, 15),
+    ] {
+        ship.says(0, minute, pressure);
+        ship.says_bulbs(minute, dry, state, wet);
+        let answer = ship.store.humidity(minute).map_err(Refused::number);
+        assert_eq!(answer, Err(number), "minute {minute}");
+    }
+}
+
+#[test]
+fn each_minute_keeps_its_own_state() {
+    let mut ship = Ship::plain();
+    for (minute, state) in [(9, 1), (10, 0), (11, 2), (12, 0), (13, 1)] {
+        ship.says(0, minute, 1000.0);
+        ship.says_bulbs(minute, -5.0, state, -5.2);
+    }
+    let e = |minute| ship.store.humidity(minute).unwrap().e;
+    let [water, ice, unknown] = [e(10), e(9), e(11)];
+    assert_eq!([water, ice, unknown], [403, 383, 393]);
+    assert_eq!([e(12), e(13)], [water, ice]);
+}
+
+#[test]
+fn a_refused_state_leaves_the_one_that_was_kept() {
+    let mut ship = Ship::plain();
+    ship.says(0, 9, 1000.0);
+    ship.says_bulbs(9, -10.0, 1, -10.0);
+    for (minute, state, value, refused) in [
+        (10, 3, -10.0, Refused::NoSuchState),
+        (10, 255, -10.0, Refused::NoSuchState),
+        (10, 2, 50.1, Refused::OutsideLimits),
+        (9, 0, -10.0, Refused::Repeated),
+        (8, 0, -10.0, Refused::Late { minutes: 1 }),
+    ] {
+        let answer = ship.store.hear(&wet_bulb(minute, state, value));
+        assert_eq!(answer, Err(refused));
+    }
+    assert_eq!(ship.store.humidity(9).unwrap().e, 260);
+    assert_eq!(ship.store.humidity(10), Err(absent(0, 10)));
 }
 
 #[test]
@@ -232,7 +284,7 @@ fn a_message_refused_by_1_to_7_is_not_the_newest() {
         later(|m| m.truncate(15)),
         later(|m| m[0] = 6),
         later(|m| m[2] = 1),
-        later(|m| m[1] = 1),
+        later(|m| m[1] = 3),
         later(|m| m[7] = 1),
         later(|m| m[8..12].copy_from_slice(&f32::NAN.to_le_bytes())),
         later(|m| m[8..12].copy_from_slice(&50.1f32.to_le_bytes())),

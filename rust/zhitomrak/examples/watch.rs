@@ -1,15 +1,17 @@
-//! A watch of four hours through the Rust crate: instruments are heard each minute with a gap, the four questions are asked, the
-//! answers go into a watch file, and the file is listed.
+//! A watch of four hours through the Rust crate: instruments are heard each minute with a gap, the four questions are asked, the wick
+//! freezes, the answers go into a watch file, and the file is listed.
 
 use std::io::Write;
 
 use zhitomrak::watchfile::{self, Body, Record, LISTING_ROOM, LONGEST_FILE};
-use zhitomrak::{Point, Refused, Settings, Store, Unit};
+use zhitomrak::{Humidity, Point, Refused, Settings, Store, Unit};
 
-/// A message: channel, minute and binary32 values, little endian.
-fn send(store: &mut Store, channel: u8, minute: u32, first: f32, second: f32) {
+/// A message: channel, state, minute and binary32 values, little endian. The state is what is on the wet bulb: 0 water, 1 ice, 2
+/// unknown; on the other channels it is 0.
+fn send(store: &mut Store, channel: u8, state: u8, minute: u32, first: f32, second: f32) {
     let mut message = [0; 16];
     message[0] = channel;
+    message[1] = state;
     message[4..8].copy_from_slice(&minute.to_le_bytes());
     message[8..12].copy_from_slice(&first.to_le_bytes());
     message[12..].copy_from_slice(&second.to_le_bytes());
@@ -22,18 +24,25 @@ fn send(store: &mut Store, channel: u8, minute: u32, first: f32, second: f32) {
     }
 }
 
+fn say_humidity(of: &str, h: Humidity) {
+    println!(
+        "{of} {} {} {} {} {}",
+        h.e, h.saturation, h.deficit, h.relative, h.dew
+    );
+}
+
 /// The instruments of one minute.
 fn minute_passes(store: &mut Store, minute: u32) {
     let falls = minute as f32 * 0.03;
     // a quarter of an hour without barometer
     if !(60..75).contains(&minute) {
-        send(store, 0, minute, 741.9 - falls, 0.0);
+        send(store, 0, 0, minute, 741.9 - falls, 0.0);
     }
-    send(store, 1, minute, 12.4, 0.0);
-    send(store, 2, minute, 2.5, 40.0);
-    send(store, 3, minute, 12.5, 260.0);
-    send(store, 4, minute, 20.0, 0.0);
-    send(store, 5, minute, 15.0, 0.0);
+    send(store, 1, 0, minute, 12.4, 0.0);
+    send(store, 2, 0, minute, 2.5, 40.0);
+    send(store, 3, 0, minute, 12.5, 260.0);
+    send(store, 4, 0, minute, 20.0, 0.0);
+    send(store, 5, 0, minute, 15.0, 0.0);
 }
 
 fn main() -> Result<(), Refused> {
@@ -67,9 +76,9 @@ fn main() -> Result<(), Refused> {
         minute_passes(&mut store, minute);
     }
     // the newest minute again
-    send(&mut store, 0, 240, 741.9, 0.0);
+    send(&mut store, 0, 0, 240, 741.9, 0.0);
     // a clock that has gone back by an hour
-    send(&mut store, 4, 180, 20.0, 0.0);
+    send(&mut store, 4, 0, 180, 20.0, 0.0);
 
     if let Err(Refused::MissingReading { channel, minute }) = store.pressure(70) {
         println!("refused 11, channel {channel}, minute {minute}");
@@ -81,10 +90,15 @@ fn main() -> Result<(), Refused> {
     println!("pressure {pressure}");
     println!("tendency {}, {} absent", tendency.change, tendency.absent);
     println!("wind {} from {}", wind.speed, wind.direction);
-    println!(
-        "humidity {} {} {} {} {}",
-        humidity.e, humidity.saturation, humidity.deficit, humidity.relative, humidity.dew
-    );
+    say_humidity("humidity", humidity);
+
+    send(&mut store, 0, 0, 241, 734.7, 0.0);
+    send(&mut store, 4, 0, 241, -10.0, 0.0);
+    // there is no state 3
+    send(&mut store, 5, 3, 241, -10.0, 0.0);
+    // ice
+    send(&mut store, 5, 1, 241, -10.0, 0.0);
+    say_humidity("humidity by an iced bulb", store.humidity(241)?);
 
     let records = [
         Record {

@@ -13,8 +13,8 @@ pub enum Refused {
     NoSuchChannel,
     /// 3: a byte that must be zero isn't.
     ByteNotZero,
-    /// 4: wet-bulb state not water.
-    WetBulbNotWater,
+    /// 4: the wet bulb's state is above 2.
+    NoSuchState,
     /// 5: a minute above 16,777,215, sent or asked.
     MinuteTooLate,
     /// 6: infinite or not a number.
@@ -44,8 +44,14 @@ pub enum Refused {
         /// Its minute.
         minute: u32,
     },
-    /// 13: wet bulb above dry bulb.
+    /// 13: wet bulb above dry bulb, with water on it.
     WetAboveDry,
+    /// 20, tested after 13: ice, or a state unknown, with the wet bulb above 0.0 °C.
+    TooWarmForIce,
+    /// 21: state unknown, and the air not within -9.9 to 0.0 °C.
+    UnknownOutsideRange,
+    /// 22, tested before 15: e above saturation over water at the dry bulb.
+    AboveSaturation,
     /// 14: tendency asked for a minute below 180.
     NoThreeHours,
     /// 15: vapour pressure below 0.19 hPa.
@@ -78,7 +84,7 @@ impl Refused {
             Refused::NotSixteenBytes => 1,
             Refused::NoSuchChannel => 2,
             Refused::ByteNotZero => 3,
-            Refused::WetBulbNotWater => 4,
+            Refused::NoSuchState => 4,
             Refused::MinuteTooLate => 5,
             Refused::NotFinite => 6,
             Refused::OutsideLimits => 7,
@@ -89,6 +95,9 @@ impl Refused {
             Refused::MissingReading { .. } => 11,
             Refused::OutsideCertificate { .. } => 12,
             Refused::WetAboveDry => 13,
+            Refused::TooWarmForIce => 20,
+            Refused::UnknownOutsideRange => 21,
+            Refused::AboveSaturation => 22,
             Refused::NoThreeHours => 14,
             Refused::TooDry => 15,
             Refused::BreaksRules { .. } => 16,
@@ -123,7 +132,7 @@ const fn bare(number: u32) -> Refused {
         1 => Refused::NotSixteenBytes,
         2 => Refused::NoSuchChannel,
         3 => Refused::ByteNotZero,
-        4 => Refused::WetBulbNotWater,
+        4 => Refused::NoSuchState,
         5 => Refused::MinuteTooLate,
         6 => Refused::NotFinite,
         7 => Refused::OutsideLimits,
@@ -133,6 +142,9 @@ const fn bare(number: u32) -> Refused {
         13 => Refused::WetAboveDry,
         14 => Refused::NoThreeHours,
         15 => Refused::TooDry,
+        20 => Refused::TooWarmForIce,
+        21 => Refused::UnknownOutsideRange,
+        22 => Refused::AboveSaturation,
         _ => Refused::NoStore,
     }
 }
@@ -156,7 +168,7 @@ pub(crate) fn heard(told: raw::Heard) -> Result<(), Refused> {
     })
 }
 
-/// What a question of this refusal came to: numbers are 0, 5, 7, 11 to 15 and 255, by the contracts.
+/// What a question of this refusal came to: numbers are 0, 5, 7, 11 to 15, 20 to 22 and 255, by the contracts.
 #[inline]
 pub(crate) fn asked(why: raw::Refusal) -> Result<(), Refused> {
     let raw::Refusal {
@@ -187,7 +199,12 @@ mod tests {
             assert_eq!(opened(number).unwrap_err().number(), number);
         }
         let (channel, minute) = (4, 220);
-        for number in [5, 7, 11, 12, 13, 14, 15, raw::NO_STORE] {
+        for number in [5, 7]
+            .into_iter()
+            .chain(11..=15)
+            .chain(20..=22)
+            .chain([raw::NO_STORE])
+        {
             let why = raw::Refusal {
                 number,
                 channel,

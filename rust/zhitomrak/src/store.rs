@@ -61,7 +61,7 @@ pub struct Wind {
 pub struct Humidity {
     /// Vapour pressure, hundredths of hPa.
     pub e: i32,
-    /// Saturation at the dry bulb, hundredths of hPa.
+    /// Saturation over water at the dry bulb, hundredths of hPa.
     pub saturation: i32,
     /// Saturation less vapour pressure.
     pub deficit: i32,
@@ -114,7 +114,7 @@ impl Store {
     }
 
     /// Hears a message of instruments, 16 bytes, and keeps its reading; or the first of refusals 1 to 8 and 19 whose reason holds,
-    /// and nothing has changed.
+    /// and nothing has changed. Byte 1 of the wet bulb's message is its state, kept with the reading: 0 water, 1 ice, 2 unknown.
     #[inline]
     pub fn hear(&mut self, message: &[u8]) -> Result<(), Refused> {
         heard(raw::hear(&mut self.block, message))
@@ -150,7 +150,8 @@ impl Store {
         })
     }
 
-    /// Humidity at a minute; refusals 5, 11, 12, 13, 15.
+    /// Humidity at a minute, by what is on the wet bulb; refusals 5, 11, 12, 13, 20, 21, 22, 15. Saturation, relative humidity,
+    /// deficit and dew point are over water whatever is on it.
     #[inline]
     pub fn humidity(&self, minute: u32) -> Result<Humidity, Refused> {
         let told = raw::humidity(&self.block, minute);
@@ -169,12 +170,20 @@ impl Store {
 mod tests {
     use super::*;
 
+    /// A message of a channel with one value.
+    fn message(channel: u8, state: u8, minute: u32, value: f32) -> [u8; 16] {
+        let mut message = [0; 16];
+        message[..2].copy_from_slice(&[channel, state]);
+        message[4..8].copy_from_slice(&minute.to_le_bytes());
+        message[8..12].copy_from_slice(&value.to_le_bytes());
+        message
+    }
+
     /// Whether a message and each question are answered as by no store, and the block stays all zeros.
     fn is_no_store(block: Box<[u64; raw::WORDS]>) {
         let mut store = Store { block };
         let none = Some(Refused::NoStore);
-        let mut message = [0; 16];
-        message[8..12].copy_from_slice(&1000.0_f32.to_le_bytes());
+        let message = message(0, 0, 0, 1000.0);
         // neither a good message nor a wrong one is heard, and no minute is asked for first
         assert_eq!(store.hear(&message).err(), none);
         assert_eq!(store.hear(&message[..15]).err(), none);
@@ -205,15 +214,36 @@ mod tests {
     }
 
     #[test]
+    fn the_wet_bulb_s_state_is_kept_with_it() {
+        let mut store = opened_store();
+        let mut asked = |minute, state, dry, wet| {
+            store.hear(&message(0, 0, minute, 1000.0))?;
+            store.hear(&message(4, 0, minute, dry))?;
+            store.hear(&message(5, state, minute, wet))?;
+            store.humidity(minute).map(|h| (h.e, h.relative))
+        };
+        assert_eq!(asked(1, 0, -10.0, -10.0), Ok((287, 100)));
+        assert_eq!(asked(2, 1, -10.0, -10.0), Ok((260, 91)));
+        // ice, and the wet bulb above the dry
+        assert_eq!(asked(3, 1, -10.0, -9.8), Ok((276, 96)));
+        // unknown: the mean, and ice
+        assert_eq!(asked(4, 2, -9.9, -10.0), Ok((267, 92)));
+        assert_eq!(asked(5, 2, -9.9, -9.9), Ok((262, 91)));
+        assert_eq!(asked(6, 3, -10.0, -10.0), Err(Refused::NoSuchState));
+        assert_eq!(asked(7, 0, -10.0, -9.9), Err(Refused::WetAboveDry));
+        assert_eq!(asked(8, 1, 0.0, 0.1), Err(Refused::TooWarmForIce));
+        let outside = Err(Refused::UnknownOutsideRange);
+        assert_eq!(asked(9, 2, -10.0, -10.0), outside);
+        assert_eq!(asked(10, 1, -10.0, 0.0), Err(Refused::AboveSaturation));
+        // no other channel has a state
+        let dry = store.hear(&message(4, 1, 11, 15.0));
+        assert_eq!(dry, Err(Refused::ByteNotZero));
+    }
+
+    #[test]
     fn a_repeated_minute_and_a_late_one_are_told_apart() {
         let mut store = opened_store();
-        let bulb = |channel: u8, minute: u32| {
-            let mut message = [0; 16];
-            message[0] = channel;
-            message[4..8].copy_from_slice(&minute.to_le_bytes());
-            message[8..12].copy_from_slice(&15.0_f32.to_le_bytes());
-            message
-        };
+        let bulb = |channel, minute| message(channel, 0, minute, 15.0);
         assert_eq!(store.hear(&bulb(4, 300)), Ok(()));
         let was = store.block.clone();
         assert_eq!(store.hear(&bulb(4, 300)), Err(Refused::Repeated));

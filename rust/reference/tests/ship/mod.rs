@@ -19,6 +19,13 @@ pub fn message(channel: u8, minute: u32, first: f32, second: f32) -> Vec<u8> {
     bytes
 }
 
+/// A message of the wet bulb with its state.
+pub fn wet_bulb(minute: u32, state: u8, value: f32) -> Vec<u8> {
+    let mut bytes = message(5, minute, value, 0.0);
+    bytes[1] = state;
+    bytes
+}
+
 impl Ship {
     pub fn open(
         unit: Unit,
@@ -54,6 +61,12 @@ impl Ship {
 
     pub fn says(&mut self, channel: u8, minute: u32, value: f32) {
         self.says_pair(channel, minute, value, 0.0);
+    }
+
+    /// The psychrometer: dry bulb, and wet bulb with its state.
+    pub fn says_bulbs(&mut self, minute: u32, dry: f32, state: u8, wet: f32) {
+        self.says(4, minute, dry);
+        assert_eq!(self.store.hear(&wet_bulb(minute, state, wet)), Ok(()));
     }
 
     pub fn says_pair(&mut self, channel: u8, minute: u32, first: f32, second: f32) {
