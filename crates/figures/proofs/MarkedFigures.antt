@@ -13,11 +13,11 @@ use Rattle.wind.proofs.WindTest.{isNearest, isWind, tested}
 use Rattle.vapour.proofs.SaturationLaws.{near-test}
 use Rattle.vapour.proofs.DewLaws.{dew-test}
 use Rattle.humidity.specs.Humidity.{vapourPressure}
-use Rattle.humidity.proofs.ByTests.{by-tests}
+use Rattle.humidity.proofs.ByTests.{entries-test, by-tests}
 use Rattle.figures.specs.Marked.{marked, AllSay}
 
 pub marked-figures : AllSay marked
-unfolding marked answer every inUnit tenthsIn scaleFrom scale outside temperature height seaLevel seaLevelAnswer nearest rounded sines fold size sine cosine sum N M meets count between turned compass from withinLimits isNearest isWind near-test dew-test vapourPressure
+unfolding marked answer every inUnit tenthsIn scaleFrom scale outside temperature height seaLevel seaLevelAnswer nearest rounded sines fold size sine cosine sum N M meets count between turned compass from withinLimits isNearest isWind near-test dew-test entries-test vapourPressure
 marked-figures = (
   refl,
   (
@@ -35,12 +35,12 @@ marked-figures = (
               (
                 tested 0 0 0 0 _ _ refl,
                 (
-                  by-tests _ _ _ _ 1703 _ tt tt tt refl refl refl refl refl refl,
+                  by-tests _ _ _ _ _ 1703 0 _ tt tt tt refl refl refl refl,
                   (
-                    by-tests _ _ _ _ 611 _ tt tt tt refl refl refl refl refl refl,
+                    by-tests _ _ _ _ _ 611 0 _ tt tt tt refl refl refl refl,
                     (
-                      by-tests _ _ _ _ 19 _ tt tt tt refl refl refl refl refl refl,
-                      tt,
+                      by-tests _ _ _ _ _ 19 0 _ tt tt tt refl refl refl refl,
+                      (by-tests _ _ _ _ _ 0 260 _ tt tt tt refl refl refl refl, tt),
                     ),
                   ),
                 ),

@@ -1,4 +1,5 @@
--- Every figure that document 01 marks with *, in one table ("Figures on both sides"), as document 02 has changed them.
+-- Every figure that document 01 marks with *, in one table ("Figures on both sides"), as document 02 has changed them, and the one
+-- that W3 asks for.
 use mathlib.Core.Path.{_≡_}
 use mathlib.Core.List.{List, [], _∷_}
 use Prim.Native.Nat.{ℕ}
@@ -7,6 +8,8 @@ use lib.ListN.{length}
 use Rattle.number.specs.Refusal.{given}
 use Rattle.quantity.specs.declared.BarometerUnit.{BarometerUnit}
 use Rattle.quantity.specs.declared.BarometerUnit.the-variants.{Millimetres}
+use Rattle.quantity.specs.declared.BulbState.{BulbState}
+use Rattle.quantity.specs.declared.BulbState.the-variants.{Water, Ice}
 use Rattle.message.specs.Receive.{Figure, mmHg}
 use Rattle.settings.specs.Settings.{pointAt}
 use Rattle.settings.specs.declared.Point.{Point}
@@ -23,8 +26,8 @@ pub data Marked : Type 0 where
   pressure : BarometerUnit → ℤ → ℤ → ℤ → List Point → Figure → ℤ → ℤ → Marked
   -- course, ship's speed, apparent speed, apparent direction: speed, direction
   wind : ℕ → ℕ → ℕ → ℕ → ℕ → ℕ → Marked
-  -- dry bulb, wet bulb, station pressure, A: e, saturation, deficit, relative humidity, dew point
-  humidity : ℤ → ℤ → ℤ → ℤ → ℕ → ℕ → ℕ → ℕ → ℤ → Marked
+  -- the wet bulb's state, dry bulb, wet bulb, station pressure, A: e, saturation, deficit, relative humidity, dew point
+  humidity : BulbState → ℤ → ℤ → ℤ → ℤ → ℕ → ℕ → ℕ → ℕ → ℤ → Marked
 
 abbrev pub figures : ℕ → ℕ → ℕ → ℕ → ℤ → HumidityFigures
 figures e saturation deficit relative dew =
@@ -44,7 +47,7 @@ Says (pressure unit h difference coefficient points reading t p) =
     reading t
     ≡ given p
 Says (wind course ship apparent r v d) = IsWind course ship apparent r (Blows (record { 0 = v }) (record { 0 = d }))
-Says (humidity dry wet p a e saturation deficit relative dew) = IsMoisture dry wet p a (Given (figures e saturation deficit relative dew))
+Says (humidity s dry wet p a e saturation deficit relative dew) = IsMoisture s dry wet p a (Given (figures e saturation deficit relative dew))
 
 abbrev pub AllSay : List Marked → Type 0
 AllSay [] = Unit
@@ -72,8 +75,10 @@ marked =
     ∷ wind 0 0 100 0 100 360
     ∷ wind 0 0 0 0 0 0
     -- "Dry 20.0, wet 15.0, 1000.0 hPa, A 662: e 13.66, saturation 23.35, deficit 9.69, 59 %, dew 11.6."
-    ∷ humidity (pos 200) (pos 150) (pos 10000) (pos 662) 1366 2335 969 59 (pos 116)
+    ∷ humidity Water (pos 200) (pos 150) (pos 10000) (pos 662) 1366 2335 969 59 (pos 116)
     -- "Dry and wet 0.0: e 6.11, 100 %, dew 0.0. Dry and wet -40.0: e 0.19, 100 %, dew -39.9." (at 1000.0 hPa, A 662)
-    ∷ humidity (pos 0) (pos 0) (pos 10000) (pos 662) 611 611 0 100 (pos 0)
-    ∷ humidity (negℤ (pos 400)) (negℤ (pos 400)) (pos 10000) (pos 662) 19 19 0 100 (negℤ (pos 399))
+    ∷ humidity Water (pos 0) (pos 0) (pos 10000) (pos 662) 611 611 0 100 (pos 0)
+    ∷ humidity Water (negℤ (pos 400)) (negℤ (pos 400)) (pos 10000) (pos 662) 19 19 0 100 (negℤ (pos 399))
+    -- "it must give 2.60 hPa at -10.0": dry and wet -10.0 over ice, 91 % as appendix В has it
+    ∷ humidity Ice (negℤ (pos 100)) (negℤ (pos 100)) (pos 10000) (pos 662) 260 287 27 91 (negℤ (pos 112))
     ∷ []

@@ -8,6 +8,7 @@ use number::Number;
 use pressure::BarometerReading;
 use pressure::WorkedPressure;
 use quantity::BarometerUnit;
+use quantity::BulbState;
 use quantity::BulbTemperature;
 use quantity::Degrees;
 use quantity::Hectopascals;
@@ -103,10 +104,11 @@ fn true_wind(course: u32, ship: u32, apparent: u32, from_bow: u32) {
 }
 
 // At 1000.0 hPa, A 662.
-fn humidity_of(dry: i32, wet: i32) {
+fn humidity_of(state: BulbState, dry: i32, wet: i32) {
     let pressure = Hectopascals(Number { v: 10000 });
     let a = PsychrometerCoefficient(Kept { v: 662 });
     match humidity::humidity(
+        state,
         BulbTemperature(Kept { v: dry }),
         BulbTemperature(Kept { v: wet }),
         pressure,
@@ -123,6 +125,9 @@ fn humidity_of(dry: i32, wet: i32) {
             say(b"\n");
         }
         Moisture::WetAboveDry => say(b"refused 13\n"),
+        Moisture::TooWarmForIce => say(b"refused 20\n"),
+        Moisture::UnknownOutsideRange => say(b"refused 21\n"),
+        Moisture::AboveSaturation => say(b"refused 22\n"),
         Moisture::TooDry => say(b"refused 15\n"),
         Moisture::OutsideLimits => say(b"refused 7\n"),
     }
@@ -200,9 +205,15 @@ fn main() {
     true_wind(350, 0, 80, 20);
     true_wind(0, 0, 100, 0);
     true_wind(0, 0, 0, 0);
-    humidity_of(200, 150);
-    humidity_of(0, 0);
-    humidity_of(-400, -400);
-    humidity_of(300, 50);
+    humidity_of(BulbState::Water, 200, 150);
+    humidity_of(BulbState::Water, 0, 0);
+    humidity_of(BulbState::Water, -400, -400);
+    humidity_of(BulbState::Ice, -100, -100);
+    humidity_of(BulbState::Water, 300, 50);
+    humidity_of(BulbState::Unknown, -50, -50);
+    humidity_of(BulbState::Unknown, -50, -51);
+    humidity_of(BulbState::Ice, 0, 1);
+    humidity_of(BulbState::Unknown, -100, -100);
+    humidity_of(BulbState::Ice, -85, -82);
     watch_with_a_gap();
 }

@@ -61,8 +61,8 @@ fn others_hold(pressure: Number, a: Number) -> bool
 
 // ---- vapour pressure
 
-// A hundredth of hPa in the parts that e is worked in.
-const PARTS: Number = Number { v: 1000000000000 };
+// A hundredth of hPa has so many of the parts in which e is exact.
+const PARTS: u64 = 1000000000000;
 
 // The factor over ice, in millionths.
 const ICE_FACTOR: Number = Number { v: 882200 };
@@ -90,7 +90,9 @@ fn exact(
     ensures { λ r. ⌜ Is (r .v) (exact table (factor .v) (a .v) (pressure .v) (dry .v) (wet .v)) largestExact ⌝ }
 {
     let less = a.times(pressure).times(dry.minus(wet)).times(factor);
-    Number::whole(table).times(PARTS).minus(less)
+    Number::whole(table)
+        .times(Number::signed(false, PARTS))
+        .minus(less)
 }
 
 // ---- what follows from it
@@ -145,16 +147,16 @@ fn on_water(dry: Number, wet: Number, pressure: Number, a: Number, d: u32, w: u3
     if !wet.at_most(dry) {
         return Moisture::WetAboveDry;
     }
-    let e = exact(w, water_factor(wet), a, pressure, dry, wet);
-    by_vapour(e.over(1000000000000), d)
+    let over_water = exact(w, water_factor(wet), a, pressure, dry, wet);
+    by_vapour(over_water.over(PARTS), d)
 }
 
 fn on_ice(dry: Number, wet: Number, pressure: Number, a: Number, d: u32, w: u32, i: u32) -> Moisture
     requires { ⌜ Tabled (dry .v) (wet .v) (pressure .v) (a .v) d w × Frozen (wet .v) i ⌝ }
     ensures { λ r. ⌜ IsMoisture Ice (dry .v) (wet .v) (pressure .v) (a .v) r ⌝ }
 {
-    let e = exact(i, ICE_FACTOR, a, pressure, dry, wet);
-    by_vapour(e.over(1000000000000), d)
+    let over_ice = exact(i, ICE_FACTOR, a, pressure, dry, wet);
+    by_vapour(over_ice.over(PARTS), d)
 }
 
 fn in_doubt(dry: Number, wet: Number, pressure: Number, a: Number, d: u32, w: u32, i: u32) -> Moisture
@@ -166,10 +168,10 @@ fn in_doubt(dry: Number, wet: Number, pressure: Number, a: Number, d: u32, w: u3
     }
     let over_ice = exact(i, ICE_FACTOR, a, pressure, dry, wet);
     if dry.at_most(wet) {
-        return by_vapour(over_ice.over(1000000000000), d);
+        return by_vapour(over_ice.over(PARTS), d);
     }
     let over_water = exact(w, water_factor(wet), a, pressure, dry, wet);
-    by_vapour(over_water.plus(over_ice).over(2000000000000), d)
+    by_vapour(over_water.plus(over_ice).over(2 * PARTS), d)
 }
 
 // The humidity of both bulbs at a station pressure, by what is on the wet bulb's wick, or the first of refusals 7, 13, 20, 21, 22 and 15

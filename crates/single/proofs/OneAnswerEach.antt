@@ -23,6 +23,11 @@ use Rattle.quantity.proofs.Hectopascals.changes.Reads as quantity-Hectopascals-
 use Rattle.quantity.proofs.Millimetres.holds.Reads as quantity-Millimetres-holds
 use Rattle.quantity.proofs.WheelhouseTemperature.holds.Reads as quantity-WheelhouseTemperature-holds
 use Rattle.quantity.proofs.BulbTemperature.holds.Reads as quantity-BulbTemperature-holds
+use Rattle.quantity.proofs.BulbTemperature.freezes.Reads as quantity-BulbTemperature-freezes
+use Rattle.quantity.proofs.BulbTemperature.leaves_doubt.Reads as quantity-BulbTemperature-leaves-doubt
+use Rattle.quantity.proofs.BulbState.holds.Reads as quantity-BulbState-holds
+use Rattle.quantity.proofs.BulbState.numbered.Reads as quantity-BulbState-numbered
+use Rattle.quantity.proofs.BulbState.number.Reads as quantity-BulbState-number
 use Rattle.quantity.proofs.MetresPerSecond.holds.Reads as quantity-MetresPerSecond-holds
 use Rattle.quantity.proofs.MetresPerSecond.blows.Reads as quantity-MetresPerSecond-blows
 use Rattle.quantity.proofs.Knots.holds.Reads as quantity-Knots-holds
@@ -89,6 +94,7 @@ use Rattle.wind.proofs.SingleAnswers as wind
 use Rattle.wind.proofs.true_wind.Reads as wind-true-wind
 use Rattle.vapour.proofs.SingleAnswers as vapour
 use Rattle.vapour.proofs.saturation.Reads as vapour-saturation
+use Rattle.vapour.proofs.saturation_over_ice.Reads as vapour-saturation-over-ice
 use Rattle.vapour.proofs.dew_point.Reads as vapour-dew-point
 use Rattle.vapour.proofs.VapourPressure.holds.Reads as vapour-VapourPressure-holds
 use Rattle.vapour.proofs.relative_humidity.Reads as vapour-relative-humidity
@@ -218,6 +224,11 @@ pub record OneAnswerEach : Type 0 where
   pub quantity-Millimetres-holds-single : Single quantity-Millimetres-holds.Post
   pub quantity-WheelhouseTemperature-holds-single : Single quantity-WheelhouseTemperature-holds.Post
   pub quantity-BulbTemperature-holds-single : Single quantity-BulbTemperature-holds.Post
+  pub quantity-BulbTemperature-freezes-single : Single quantity-BulbTemperature-freezes.Post
+  pub quantity-BulbTemperature-leaves-doubt-single : Single quantity-BulbTemperature-leaves-doubt.Post
+  pub quantity-BulbState-holds-single : Single quantity-BulbState-holds.Post
+  pub quantity-BulbState-numbered-single : Single quantity-BulbState-numbered.Post
+  pub quantity-BulbState-number-single : Single quantity-BulbState-number.Post
   pub quantity-MetresPerSecond-holds-single : Single quantity-MetresPerSecond-holds.Post
   pub quantity-MetresPerSecond-blows-single : Single quantity-MetresPerSecond-blows.Post
   pub quantity-Knots-holds-single : Single quantity-Knots-holds.Post
@@ -287,6 +298,7 @@ pub record OneAnswerEach : Type 0 where
   pub wind-true-wind-single : Single wind-true-wind.Post
   -- vapour
   pub vapour-saturation-single : Single vapour-saturation.Post
+  pub vapour-saturation-over-ice-single : Single vapour-saturation-over-ice.Post
   pub vapour-dew-point-single : Single vapour-dew-point.Post
   pub vapour-VapourPressure-holds-single : Single vapour-VapourPressure-holds.Post
   pub vapour-relative-humidity-single : Single vapour-relative-humidity.Post
@@ -448,6 +460,11 @@ one-answer-each =
       quantity-Millimetres-holds-single = quantity.single-millimetres;
       quantity-WheelhouseTemperature-holds-single = quantity.single-wheelhouse-temperature;
       quantity-BulbTemperature-holds-single = quantity.single-bulb-temperature;
+      quantity-BulbTemperature-freezes-single = quantity.single-freezes;
+      quantity-BulbTemperature-leaves-doubt-single = quantity.single-leaves-doubt;
+      quantity-BulbState-holds-single = quantity.single-is-state;
+      quantity-BulbState-numbered-single = quantity.single-state-numbered;
+      quantity-BulbState-number-single = quantity.single-state-number;
       quantity-MetresPerSecond-holds-single = quantity.single-metres-per-second;
       quantity-MetresPerSecond-blows-single = quantity.single-blows;
       quantity-Knots-holds-single = quantity.single-knots;
@@ -506,6 +523,7 @@ one-answer-each =
       sine-cosine-single = sine.single-cosine;
       wind-true-wind-single = wind.single-true-wind;
       vapour-saturation-single = vapour.single-saturation;
+      vapour-saturation-over-ice-single = vapour.single-over-ice;
       vapour-dew-point-single = vapour.single-dew-point;
       vapour-VapourPressure-holds-single = vapour.single-vapour-pressure;
       vapour-relative-humidity-single = vapour.single-relative-humidity;

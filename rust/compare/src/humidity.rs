@@ -11,34 +11,29 @@ use crate::tally::Tally;
 const AIRS: [(bool, i32, i32); 6] = [
     (false, 10000, 662),
     (false, 8500, 1000),
+    (true, 8250, 501),
     (false, 11000, 500),
     (true, 7600, 662),
     (true, 6400, 999),
-    (true, 8250, 501),
 ];
 
-/// The kind and the warmest wet bulb that is tried, by state: above 0.0 ice and the unknown are refused whatever else is so.
-const STATES: [(&str, i32); 3] = [
-    ("humidity, water", 500),
-    ("humidity, ice", 2),
-    ("humidity, state unknown", 2),
+/// The kind, in how many of these airs it is tried, and up to which wet bulb, by state: above 0.0 ice and the unknown are refused
+/// whatever else is so.
+const STATES: [(&str, usize, i32); 3] = [
+    ("humidity, water", AIRS.len(), 500),
+    ("humidity, ice", 3, 2),
+    ("humidity, state unknown", 3, 2),
 ];
-
-/// Whether a pair is tried. With water all are; else those that can be answered, since beside a dry bulb more than 2.0 below the wet
-/// one every e is above saturation, and more than 20.0 above it every e is below 0.19; and of the others each whole degree.
-fn tried(state: i32, dry: i32, wet: i32) -> bool {
-    state == 0 || (wet - 20..=wet + 200).contains(&dry) || dry % 10 == 0
-}
 
 pub fn pairs(tally: &mut Tally) {
-    for &(mm_hg, reading, psychrometer) in &AIRS {
+    for (air, &(mm_hg, reading, psychrometer)) in AIRS.iter().enumerate() {
         let mut chosen = Chosen::plain(mm_hg);
         chosen.psychrometer = psychrometer;
         let mut pair = Pair::open(tally, &chosen).expect("plain settings open");
         let mut minute = 0;
-        for (state, &(kind, warmest)) in (0..).zip(&STATES) {
+        for (state, &(kind, _, warmest)) in (0..).zip(&STATES).filter(|(_, state)| air < state.1) {
             for dry in -400..=500 {
-                for wet in (-400..=warmest).filter(|&wet| tried(state, dry, wet)) {
+                for wet in -400..=warmest {
                     minute += 1;
                     pair.hear(tally, "humidity, heard", &tenths(0, minute, reading, 0));
                     pair.hear(tally, "humidity, heard", &tenths(4, minute, dry, 0));

@@ -8,6 +8,7 @@ use borrow.Author.Needs.{needs}
 use Rattle.humidity.proofs.exact.Statement.{statement}
 use Rattle.humidity.proofs.exact.Tie as tie
 use Rattle.number.proofs.Number.minus.Reads as minus-reads
+use Rattle.number.proofs.Number.signed.Reads as signed-reads
 use Rattle.number.proofs.Number.times.Reads as times-reads
 use Rattle.number.proofs.Number.whole.Reads as whole-reads
 
@@ -41,27 +42,33 @@ times-requires-3 c κs = omega (arith, mul-le-mul (product c) (c .before .before
 whole-requires : tie.Need-whole-requires
 whole-requires c κs = search needs
 
+signed-requires : tie.Need-signed-requires
+signed-requires c κs = omega arith
+
 times-requires-4 : tie.Need-times-requires-4
-times-requires-4 c κs = omega (arith, ap natAbs (c .whole .ensures .value), c .before .before .before .before .before .pre .0)
+times-requires-4 c κs =
+    omega (arith, ap natAbs (c .before .whole .ensures .value), c .signed .ensures .size, c .before .before .before .before .before .before .pre .0)
 
 minus-requires-2 : tie.Need-minus-requires-2
 minus-requires-2 c κs =
-    omega (arith, less (c .before .before), ap natAbs (c .before .whole .ensures .value), c .before .before .before .before .before .before .pre .0)
+    let start = c .before .before .before .before .before .before .before in
+    omega (arith, less (c .before .before .before), ap natAbs (c .before .before .whole .ensures .value), c .before .signed .ensures .size, start .pre .0)
 
 returns : tie.Need-returns
 returns c =
-    let t = c .before .before .before in
+    let t = c .before .before .before .before in
     record {
       value = rw (
         c .minus2 .ensures .value,
         c .before .times4 .ensures .value,
-        c .before .before .whole .ensures .value,
+        c .before .before .signed .ensures .value,
+        c .before .before .before .whole .ensures .value,
         t .times3 .ensures .value,
         t .before .times2 .ensures .value,
         t .before .before .minus .ensures .value,
         t .before .before .before .times .ensures .value,
       );
-      size = omega (arith, less t, ap natAbs (c .before .before .whole .ensures .value), t .before .before .before .before .pre .0);
+      size = omega (arith, less t, ap natAbs (c .before .before .before .whole .ensures .value), c .before .before .signed .ensures .size, t .before .before .before .before .pre .0);
     }
 
 pub exact-spec : {M : Type 1} → statement M
@@ -73,6 +80,7 @@ exact-spec =
     times-requires-2
     times-requires-3
     whole-requires
+    signed-requires
     times-requires-4
     minus-requires-2
     returns)
