@@ -68,7 +68,7 @@ pub fn cell_of(r: Reading) -> u64
         Reading::ApparentWind(v, d) => pair_cell(v.0, d.0),
         Reading::ShipMotion(v, d) => pair_cell(v.0, d.0),
         Reading::DryBulb(t) => biased(t.0) % 65536,
-        Reading::WetBulb(s, t) => biased(t.0) % 65536 + 65536 * (s.number() as u64),
+        Reading::WetBulb(s, t) => pair_cell(half(biased(t.0)), s.number()),
     }
 }
 

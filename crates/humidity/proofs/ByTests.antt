@@ -65,7 +65,7 @@ module _ (s : BulbState) (dry wet p a : ℤ) (w i : ℕ) where
   pub refused-by-tests : (d : ℕ) (m : Moisture) → T (entries-test s wet w i) → T (near-test water dry d)
       → moistureAs m ≡ answer (tests s dry wet p a d (vapourPressure s w i a p dry wet)) none
       → (m ≡ Given none → ⊥) → IsMoisture s dry wet p a m
-  refused-by-tests d m tw td first no =
+  refused-by-tests d m tw td first other =
       record {
         d = d;
         w = w;
@@ -74,5 +74,5 @@ module _ (s : BulbState) (dry wet p a : ℤ) (w i : ℕ) where
         entries = λ l c. entries-by-test s wet w i tw;
         figures = none;
         first = first;
-        worked = λ g. absurd (no g);
+        worked = λ g. absurd (other g);
       }

@@ -1,16 +1,24 @@
--- A wet bulb under ice: 20 does not hold of it, and its entry is no larger than any over water. Assumes nothing.
-use mathlib.Core.Path.{_≡_, ap, subst, sym}
-use mathlib.Core.Bool.{true, false, not}
+-- A wet bulb under ice: 20 does not hold of it, as it does of any other, and its entry is small. Assumes nothing.
+use mathlib.Core.Path.{_≡_, refl, ap, subst, sym, _∙_}
+use mathlib.Core.Bool.{Bool, true, false, not}
 use Prim.Native.Nat.{ℕ, _≤_}
 use native.Mathlib.Omega.{arith}
 use lib.Dec.{T}
 use lib.IntN.{ℤ}
 use lib.Signed.{leZ}
-use Rattle.number.proofs.Sizes.{and-true}
-use Rattle.quantity.specs.Limits.{inside, frost}
+use Rattle.number.proofs.Sizes.{never, and-true, both}
+use Rattle.quantity.specs.Limits.{inside, bulb, frost}
 use Rattle.vapour.specs.Vapour.{Near, ice, highestVapour}
 use Rattle.vapour.proofs.SaturationLaws.{near-test, near-by-test, near-rises}
 use Rattle.humidity.specs.Parts.{Frozen}
+
+-- a wet bulb within its limits and not under ice is above 0.0
+pub warm : (wet : ℤ) → inside bulb wet ≡ true → inside frost wet ≡ false → not (leZ wet (frost .high)) ≡ true
+warm wet b f = go (leZ wet (frost .high)) refl
+  where
+    go : (c : Bool) → leZ wet (frost .high) ≡ c → not (leZ wet (frost .high)) ≡ true
+    go true e = never (sym f ∙ both (and-true (leZ (bulb .low) wet) (leZ wet (bulb .high)) b .0) e)
+    go false e = ap not e
 
 module _ (wet : ℤ) (i : ℕ) (f : Frozen wet i) where
   under : leZ wet (frost .high) ≡ true

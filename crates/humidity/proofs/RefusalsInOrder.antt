@@ -1,11 +1,12 @@
 -- Humidity refuses with the first of 7, 13, 20, 21, 22 and 15, in this order, whose reason holds, and gives figures where none does:
 -- the one law of refusals at its list. With water on the wick 20, 21 and 22 never refuse. Assumes nothing.
 use mathlib.Core.Path.{_≡_, refl, sym, ap, _∙_}
-use mathlib.Core.Bool.{Bool, true, false}
+use mathlib.Core.Bool.{Bool, true, false, not}
 use mathlib.Core.List.{List, [], _∷_}
 use mathlib.Core.Logic.{_↔_}
 use Prim.Native.Nat.{ℕ}
 use lib.IntN.{ℤ}
+use lib.Signed.{leZ}
 use Rattle.number.specs.Refusal.{Test, refused, given, answer, Holds, First}
 use Rattle.number.proofs.RefusalLaws.{refused-exactly, given-exactly}
 use Rattle.quantity.specs.declared.BulbState.{BulbState}

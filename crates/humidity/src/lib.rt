@@ -188,21 +188,20 @@ pub fn humidity(
     let t = dry.0.number();
     let u = wet.0.number();
     let k = a.0.number();
-    let p = pressure.0;
     let Saturations::Entries(d, w) = vapour::saturation(dry, wet) else {
         return Moisture::OutsideLimits;
     };
-    if !others_hold(p, k) {
+    if !others_hold(pressure.0, k) {
         return Moisture::OutsideLimits;
     }
     match state {
-        BulbState::Water => on_water(t, u, p, k, d.0, w.0),
+        BulbState::Water => on_water(t, u, pressure.0, k, d.0, w.0),
         BulbState::Ice => match vapour::saturation_over_ice(wet) {
-            OverIce::Entry(i) => on_ice(t, u, p, k, d.0, w.0, i.0),
+            OverIce::Entry(i) => on_ice(t, u, pressure.0, k, d.0, w.0, i.0),
             OverIce::OutsideIceTable => Moisture::TooWarmForIce,
         },
         BulbState::Unknown => match vapour::saturation_over_ice(wet) {
-            OverIce::Entry(i) => in_doubt(t, u, p, k, d.0, w.0, i.0),
+            OverIce::Entry(i) => in_doubt(t, u, pressure.0, k, d.0, w.0, i.0),
             OverIce::OutsideIceTable => Moisture::TooWarmForIce,
         },
     }

@@ -3,6 +3,7 @@ ghost use mathlib.Core.Path.{_≡_};
 ghost use Prim.Native.Nat.{_+_, _≤_};
 ghost use lib.ListN.{length};
 ghost use lib.Ieee.{binary32, ofBits};
+ghost use Rattle.quantity.specs.States.{isState};
 ghost use Rattle.octets.specs.Bytes.{le32};
 ghost use Rattle.wire.specs.Bytes.{stray, noState};
 ghost use Rattle.wire.specs.Finite.{isFinite, Finite};
@@ -103,13 +104,19 @@ fn has_stray(bytes: &[u8]) -> bool
     word(bytes, 12) != 0
 }
 
+fn is_state(n: u8) -> bool
+    ensures { λ r. ⌜ r ≡ isState n ⌝ }
+{
+    BulbState::holds(n as u32)
+}
+
 // Whether the wet bulb's state is none.
 fn has_no_state(bytes: &[u8]) -> bool
     requires { ⌜ length (now bytes) ≡ 16 ⌝ }
     ensures { λ r. ⌜ r ≡ noState (now (bytes .entry)) ⌝ }
 {
     if bytes[0] == 5 {
-        return !BulbState::holds(bytes[1] as u32);
+        return !is_state(bytes[1]);
     }
     false
 }

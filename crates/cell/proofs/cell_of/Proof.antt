@@ -1,10 +1,20 @@
 -- `cell_of` meets its contract: by the kind. Assumes nothing.
 use mathlib.Core.Path.{ap, _∙_}
+use Prim.Native.Nat.{_≤_}
 use native.Mathlib.Omega.{arith}
+use lib.Dec.{lit≤}
 use lib.IntN.{natAbs}
+use Rattle.quantity.specs.States.{stateNumber}
+use Rattle.quantity.specs.declared.BulbState.{BulbState}
+use Rattle.quantity.specs.declared.BulbState.the-variants.{Water, Ice, Unknown}
 use borrow.Author.Needs.{needs}
 use Rattle.cell.proofs.cell_of.Statement.{statement}
 use Rattle.cell.proofs.cell_of.Tie as tie
+
+state-small : (s : BulbState) → stateNumber s ≤ 2
+state-small Water = lit≤ tt
+state-small Ice = lit≤ tt
+state-small Unknown = lit≤ tt
 
 enum-known-r : tie.Need-enum-known-r
 enum-known-r c = search needs
@@ -51,8 +61,14 @@ enum-known-r-7 c = search needs
 biased-requires-3 : tie.Need-biased-requires-3
 biased-requires-3 c κs = search needs
 
+half-requires : tie.Need-half-requires
+half-requires c κs = search needs
+
 number-requires-2 : tie.Need-number-requires-2
 number-requires-2 c κs = search needs
+
+pair-cell-requires-3 : tie.Need-pair-cell-requires-3
+pair-cell-requires-3 c κs = search needs
 
 returns : tie.Need-returns
 returns c = λ t. rw (c .before .before .before .r .given .1) (omega (arith, c .size .ensures))
@@ -74,7 +90,17 @@ returns-6 : tie.Need-returns-6
 returns-6 c = λ t. rw (c .before .before .r6 .given .1) (omega (arith, c .biased2 .ensures .0))
 
 returns-7 : tie.Need-returns-7
-returns-7 c = λ t. rw (c .before .before .before .r7 .given .1) (omega (arith, c .before .biased3 .ensures .0, c .number2 .ensures))
+returns-7 c =
+    let found = c .before .before .before .before .before .r7 .given in
+    λ t. rw (found .1)
+        (omega (
+          arith,
+          c .pair-cell3 .ensures,
+          c .before .number2 .ensures,
+          state-small (found .0 .0),
+          c .before .before .half .ensures .0,
+          c .before .before .before .biased3 .ensures .0,
+        ))
 
 pub cell-of-spec : {M : Type 1} → statement M
 cell-of-spec =
@@ -95,7 +121,9 @@ cell-of-spec =
     biased-requires-2
     enum-known-r-7
     biased-requires-3
+    half-requires
     number-requires-2
+    pair-cell-requires-3
     returns
     returns-2
     returns-3

@@ -1,6 +1,6 @@
 -- `by_vapour` meets its contract: 22, then 15, and then e lies from 0.19 hPa to saturation. Assumes nothing.
 use mathlib.Core.Path.{_≡_, sym, ap, subst, _∙_}
-use mathlib.Core.Bool.{Bool}
+use mathlib.Core.Bool.{Bool, true}
 use Prim.Native.Nat.{ℕ, _≤_}
 use native.Mathlib.Omega.{arith}
 use lib.IntN.{ℤ, pos, natAbs}
@@ -79,8 +79,8 @@ returns-2 c =
 size-requires : tie.Need-size-requires
 size-requires c κs = search needs
 
-cast-t13 : tie.Need-cast-t13
-cast-t13 c = record { fits = omega (arith, by-size c .most) }
+cast-t9 : tie.Need-cast-t9
+cast-t9 c = record { fits = omega (arith, by-size c .most) }
 
 figures-requires : tie.Need-figures-requires
 figures-requires c κs = let z = by-size c in (z .least, z .most, c .before .before .before .before .before .before .before .pre)
@@ -108,6 +108,6 @@ by-vapour-spec =
     at-most-requires-2
     returns-2
     size-requires
-    cast-t13
+    cast-t9
     figures-requires
     returns-3)

@@ -45,14 +45,18 @@ whole-requires c κs = search needs
 signed-requires : tie.Need-signed-requires
 signed-requires c κs = omega arith
 
+-- the entry, and its parts
+entry : (c : tie.After-whole) → natAbs (c .whole .result .v) ≤ 12345
+entry c = omega (arith, ap natAbs (c .whole .ensures .value), c .before .before .before .before .before .pre .0)
+
 times-requires-4 : tie.Need-times-requires-4
-times-requires-4 c κs =
-    omega (arith, ap natAbs (c .before .whole .ensures .value), c .signed .ensures .size, c .before .before .before .before .before .before .pre .0)
+times-requires-4 c κs = omega (arith, mul-le-mul (entry (c .before)) (c .signed .ensures .size))
+
+whole : (c : tie.After-times4) → natAbs (c .times4 .result .v) ≤ 12345000000000000
+whole c = omega (arith, mul-le-mul (entry (c .before .before)) (c .before .signed .ensures .size))
 
 minus-requires-2 : tie.Need-minus-requires-2
-minus-requires-2 c κs =
-    let start = c .before .before .before .before .before .before .before in
-    omega (arith, less (c .before .before .before), ap natAbs (c .before .before .whole .ensures .value), c .before .signed .ensures .size, start .pre .0)
+minus-requires-2 c κs = omega (arith, less (c .before .before .before), whole c)
 
 returns : tie.Need-returns
 returns c =
@@ -68,7 +72,7 @@ returns c =
         t .before .before .minus .ensures .value,
         t .before .before .before .times .ensures .value,
       );
-      size = omega (arith, less t, ap natAbs (c .before .before .before .whole .ensures .value), c .before .before .signed .ensures .size, t .before .before .before .before .pre .0);
+      size = omega (arith, less t, whole (c .before));
     }
 
 pub exact-spec : {M : Type 1} → statement M

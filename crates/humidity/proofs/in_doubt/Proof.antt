@@ -94,6 +94,9 @@ exact-requires-2 c κs =
 plus-requires : tie.Need-plus-requires
 plus-requires c κs = omega (arith, c .exact2 .ensures .size, c .before .before .before .before .exact .ensures .size)
 
+mul-over : tie.Need-mul-over
+mul-over c = search needs
+
 over-requires-2 : tie.Need-over-requires-2
 over-requires-2 c κs = (omega arith, omega (arith, c .plus .ensures .size, c .before .exact2 .ensures .size, c .before .before .before .before .before .exact .ensures .size))
 
@@ -137,6 +140,7 @@ in-doubt-spec =
     water-factor-requires
     exact-requires-2
     plus-requires
+    mul-over
     over-requires-2
     by-vapour-requires-2
     returns-3)

@@ -89,7 +89,7 @@ enum-known-m-6 c = search needs
 tenths-requires-6 : tie.Need-tenths-requires-6
 tenths-requires-6 c κs = subst Sound (c .before .m6 .given .1) (c .before .before .before .pre)
 
-wet-dry-bulb-requires : tie.Need-wet-bulb-requires
+wet-bulb-requires : tie.Need-wet-bulb-requires
 wet-bulb-requires c κs = search needs
 
 returns : tie.Need-returns

@@ -28,10 +28,10 @@ returns : tie.Need-returns
 returns c = sym (ap (inside frost) (c .before .before .number .ensures .value)) ∙ sym (c .before .freezes .ensures) ∙ not-true _ (c .if1 .taken)
 
 place-requires : tie.Need-place-requires
-place-requires c κs = frost-bulb _ (frozen c)
+place-requires c κs = frost-bulb (c .before .before .number .result .v) (frozen c)
 
 entry-over-ice-requires : tie.Need-entry-over-ice-requires
-entry-over-ice-requires c κs = frost-place _ _ (c .place .ensures .1) (frozen (c .before))
+entry-over-ice-requires c κs = frost-place (c .place .result) (c .before .before .before .number .result .v) (c .place .ensures .1) (frozen (c .before))
 
 returns-2 : tie.Need-returns-2
 returns-2 c =

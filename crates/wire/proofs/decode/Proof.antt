@@ -124,12 +124,15 @@ returns-7 c =
       finite-word (c .before .before .word3 .ensures) (c .before .is-finite2 .ensures) (not-true _ (c .if7 .taken)),
     )
 
+shared-slice-read-state : tie.Need-shared-slice-read-state
+shared-slice-read-state c = search needs
+
 float-of-requires : tie.Need-float-of-requires
 float-of-requires c κs =
-    subst T (sym (sym (c .before .before .before .before .is-finite .ensures) ∙ not-false _ (c .before .before .before .if6 .left))) tt
+    subst T (sym (sym (c .before .before .before .before .before .is-finite .ensures) ∙ not-false _ (c .before .before .before .before .if6 .left))) tt
 
 float-of-requires-2 : tie.Need-float-of-requires-2
-float-of-requires-2 c κs = subst T (sym (sym (c .before .before .is-finite2 .ensures) ∙ not-false _ (c .before .if7 .left))) tt
+float-of-requires-2 c κs = subst T (sym (sym (c .before .before .before .is-finite2 .ensures) ∙ not-false _ (c .before .before .if7 .left))) tt
 
 kind-of-requires : tie.Need-kind-of-requires
 kind-of-requires c κs = search needs
@@ -138,18 +141,18 @@ returns-8 : tie.Need-returns-8
 unfolding answer decoded
 returns-8 c =
     rw (
-      eq-eqb _ _ (c .before .before .before .before .before .before .before .before .before .before .before .before .before .before .before .before .before .before .if1 .left),
-      le-ltb _ _ (c .before .before .before .before .before .before .before .before .before .before .before .before .before .before .before .before .if2 .left),
-      sym (c .before .before .before .before .before .before .before .before .before .before .before .before .before .before .before .has-stray .ensures) ∙ c .before .before .before .before .before .before .before .before .before .before .before .before .before .before .if3 .left,
-      sym (c .before .before .before .before .before .before .before .before .before .before .before .before .before .has-no-state .ensures) ∙ c .before .before .before .before .before .before .before .before .before .before .before .before .if4 .left,
-      in-time (c .before .before .before .before .before .before .before .before .before .before .before .word .ensures) (c .before .before .before .before .before .before .before .before .before .before .holds .ensures) (not-false _ (c .before .before .before .before .before .before .before .before .before .if5 .left)),
-      finite-word (c .before .before .before .before .before .before .before .before .word2 .ensures) (c .before .before .before .before .before .before .before .is-finite .ensures) (not-false _ (c .before .before .before .before .before .before .if6 .left)),
-      finite-word (c .before .before .before .before .before .word3 .ensures) (c .before .before .before .before .is-finite2 .ensures) (not-false _ (c .before .before .before .if7 .left)),
+      eq-eqb _ _ (c .before .before .before .before .before .before .before .before .before .before .before .before .before .before .before .before .before .before .before .if1 .left),
+      le-ltb _ _ (c .before .before .before .before .before .before .before .before .before .before .before .before .before .before .before .before .before .if2 .left),
+      sym (c .before .before .before .before .before .before .before .before .before .before .before .before .before .before .before .before .has-stray .ensures) ∙ c .before .before .before .before .before .before .before .before .before .before .before .before .before .before .before .if3 .left,
+      sym (c .before .before .before .before .before .before .before .before .before .before .before .before .before .before .has-no-state .ensures) ∙ c .before .before .before .before .before .before .before .before .before .before .before .before .before .if4 .left,
+      in-time (c .before .before .before .before .before .before .before .before .before .before .before .before .word .ensures) (c .before .before .before .before .before .before .before .before .before .before .before .holds .ensures) (not-false _ (c .before .before .before .before .before .before .before .before .before .before .if5 .left)),
+      finite-word (c .before .before .before .before .before .before .before .before .before .word2 .ensures) (c .before .before .before .before .before .before .before .before .is-finite .ensures) (not-false _ (c .before .before .before .before .before .before .before .if6 .left)),
+      finite-word (c .before .before .before .before .before .before .word3 .ensures) (c .before .before .before .before .before .is-finite2 .ensures) (not-false _ (c .before .before .before .before .if7 .left)),
     )
-    (sent-is (now (c .before .before .before .before .before .before .before .before .before .before .before .before .before .before .before .before .before .before .before .before .args .bytes))
-    (c .before .before .before .before .before .before .before .before .before .before .before .word .ensures)
-    (c .before .before .float-of .ensures ∙ ap (ofBits binary32) (c .before .before .before .before .before .before .before .before .word2 .ensures))
-    (c .before .float-of2 .ensures ∙ ap (ofBits binary32) (c .before .before .before .before .before .word3 .ensures))
+    (sent-is (now (c .before .before .before .before .before .before .before .before .before .before .before .before .before .before .before .before .before .before .before .before .before .args .bytes))
+    (c .before .before .before .before .before .before .before .before .before .before .before .before .word .ensures)
+    (c .before .before .float-of .ensures ∙ ap (ofBits binary32) (c .before .before .before .before .before .before .before .before .before .word2 .ensures))
+    (c .before .float-of2 .ensures ∙ ap (ofBits binary32) (c .before .before .before .before .before .before .word3 .ensures))
     (c .kind-of .ensures))
 
 pub decode-spec : {M : Type 1} → statement M
@@ -172,6 +175,7 @@ decode-spec =
     word-requires-3
     is-finite-requires-2
     returns-7
+    shared-slice-read-state
     float-of-requires
     float-of-requires-2
     kind-of-requires
