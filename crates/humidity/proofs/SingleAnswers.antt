@@ -69,6 +69,11 @@ case-back AboveSaturation = refl
 case-back TooDry = refl
 case-back OutsideLimits = refl
 
+-- an answer that tells figures is given with them
+pub is-given : (m : Moisture) (h : HumidityFigures) → moistureAs m ≡ given h → m ≡ Given h
+unfolding case-of
+is-given m h e = sym (case-back m) ∙ ap case-of e
+
 module _ (s : BulbState) (dry wet p a : ℤ) where
   -- what one answer is refused with, so is the other
   refused-alike : (m k : Moisture) → IsMoisture s dry wet p a m → IsMoisture s dry wet p a k → (n : ℕ) → moistureAs m ≡ refused n → moistureAs k ≡ refused n
@@ -94,8 +99,8 @@ module _ (s : BulbState) (dry wet p a : ℤ) where
       go (refused n) q e f = sym (case-back m) ∙ ap case-of (e ∙ sym (refused-alike m k x y n e)) ∙ case-back k
       go (given h) (refused n) e f = sym (case-back m) ∙ ap case-of (refused-alike k m y x n f ∙ sym f) ∙ case-back k
       go (given h) (given i) e f =
-          let gm : m ≡ Given h = sym (case-back m) ∙ ap case-of e in
-          let gk : k ≡ Given i = sym (case-back k) ∙ ap case-of f in
+          let gm = is-given m h e in
+          let gk = is-given k i f in
           let a1 = figured-then s dry wet p a h (subst (IsMoisture s dry wet p a) gm x) in
           let a2 = figured-then s dry wet p a i (subst (IsMoisture s dry wet p a) gk y) in
           gm ∙ ap Given (one-humidity s dry wet p a h i a1 a2) ∙ sym gk

@@ -19,10 +19,9 @@ use Rattle.vapour.proofs.SaturationLaws.{near-one}
 use Rattle.humidity.specs.Humidity.{vapourPressure, EntriesFor, tooWarmForIce, moistureTests, withinLimits, moistureAs, IsHumidity, IsMoisture}
 use Rattle.humidity.specs.declared.HumidityFigures.{HumidityFigures}
 use Rattle.humidity.specs.declared.Moisture.{Moisture}
-use Rattle.humidity.specs.declared.Moisture.the-variants.{Given}
 use Rattle.humidity.proofs.HumidityTheorems.{figured-then}
 use Rattle.humidity.proofs.VapourPressureLaws.{one-e}
-use Rattle.humidity.proofs.SingleAnswers.{case-of, case-back}
+use Rattle.humidity.proofs.SingleAnswers.{is-given}
 use Rattle.station.specs.Questions.{Answers}
 use Rattle.station.proofs.AnswerLaws.{pass, stop}
 
@@ -66,7 +65,7 @@ module _ (s : BulbState) (dry wet p a : ℤ) (tables : Tables) (tabled : AreTabl
       ∷ plain (moistureTests s dry wet (tables .overWater dry) (vapourPressure s (tables .overWater wet) (tables .overIce wet) a p dry wet)))
       (IsHumidity s dry wet p a)
       (asked m)
-  unfolding answer case-of
+  unfolding answer
   moisture-told m is = go (withinLimits dry wet p a) refl
     where
       others : withinLimits dry wet p a ≡ (inside recordedPressure p && inside settings.psychrometer a)
@@ -92,7 +91,7 @@ module _ (s : BulbState) (dry wet p a : ℤ) (tables : Tables) (tabled : AreTabl
           pass _ _ _ (asked m) (ap not (sym others ∙ l))
           (plainly-answers (moistureTests s dry wet (tables .overWater dry) e) (is .figures) (IsHumidity s dry wet p a) (moistureAs m)
           (rw l at (is .first) ∙ alike (tooWarmForIce s wet) refl l)
-          (λ h g. let same : m ≡ Given h = sym (case-back m) ∙ ap case-of g in figured-then s dry wet p a h (subst (IsMoisture s dry wet p a) same is)))
+          (λ h g. figured-then s dry wet p a h (subst (IsMoisture s dry wet p a) (is-given m h g) is)))
       go false l =
           let r : moistureAs m ≡ refused 7 = rw l at (is .first) in
           subst (λ (x : Answer ℕ HumidityFigures). Answers (test 7 [] (not (inside recordedPressure p && inside settings.psychrometer a)) ∷ plain (moistureTests s dry wet (tables .overWater dry) e)) (IsHumidity s dry wet p a) (plainly x)) (sym r)
