@@ -3,9 +3,9 @@ use mathlib.Core.Bool.{cond}
 use mathlib.Core.List.{List, [], _∷_, _++_}
 use Prim.Native.Nat.{ℕ}
 use lib.Dec.{eqb}
-use lib.IntN.{natAbs}
+use lib.IntN.{pos, natAbs}
 use Rattle.octets.specs.Bytes.{bytes32}
-use Rattle.message.specs.Receive.{Figure, hPa, mmHg, °C, m/s, kn, deg, none}
+use Rattle.message.specs.Receive.{Figure, byUnit, itself, nought}
 use Rattle.cell.specs.Cells.{Recall, absent, recalled}
 
 -- The message of a channel at a minute with the pattern of one value.
@@ -24,22 +24,10 @@ to-400 = sent 1 400 0x4158_0000 ∷ sent 0 400 0x447c_199a ∷ to-280
 
 -- A pressure in tenths of hPa, and the wheelhouse's temperature in tenths of °C without its sign; 0 where there is none.
 abbrev pub pressureOf : Figure → ℕ
-pressureOf (hPa z) = natAbs z
-pressureOf (mmHg z) = 0
-pressureOf (°C z) = 0
-pressureOf (m/s z) = 0
-pressureOf (kn z) = 0
-pressureOf (deg z) = 0
-pressureOf none = 0
+pressureOf f = natAbs (byUnit itself nought nought nought nought nought (pos 0) f)
 
 abbrev pub temperatureOf : Figure → ℕ
-temperatureOf (hPa z) = 0
-temperatureOf (mmHg z) = 0
-temperatureOf (°C z) = natAbs z
-temperatureOf (m/s z) = 0
-temperatureOf (kn z) = 0
-temperatureOf (deg z) = 0
-temperatureOf none = 0
+temperatureOf f = natAbs (byUnit nought nought itself nought nought nought (pos 0) f)
 
 abbrev pub pressureIn : Recall → ℕ
 pressureIn absent = 0

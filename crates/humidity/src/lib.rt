@@ -159,7 +159,15 @@ fn on_ice(dry: Number, wet: Number, pressure: Number, a: Number, d: u32, w: u32,
     by_vapour(over_ice.over(PARTS), d)
 }
 
-fn in_doubt(dry: Number, wet: Number, pressure: Number, a: Number, d: u32, w: u32, i: u32) -> Moisture
+fn in_doubt(
+    dry: Number,
+    wet: Number,
+    pressure: Number,
+    a: Number,
+    d: u32,
+    w: u32,
+    i: u32,
+) -> Moisture
     requires { ⌜ Tabled (dry .v) (wet .v) (pressure .v) (a .v) d w × Frozen (wet .v) i ⌝ }
     ensures { λ r. ⌜ IsMoisture Unknown (dry .v) (wet .v) (pressure .v) (a .v) r ⌝ }
 {

@@ -167,13 +167,13 @@ impl BulbTemperature {
 }
 
 impl BulbState {
-    pub const LAST: u32 = 2;
+    pub const HIGH: u32 = 2;
 
     // Whether n is the number of a state.
     pub fn holds(n: u32) -> bool
         ensures { λ r. ⌜ r ≡ isState n ⌝ }
     {
-        n <= Self::LAST
+        n <= Self::HIGH
     }
 
     // The state of a number; unknown where that is none.

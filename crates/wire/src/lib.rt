@@ -190,5 +190,8 @@ pub fn decode(bytes: &[u8]) -> Decoded
         return Decoded::Refused(MessageRefusal::NotFinite);
     }
     let state = bytes[1];
-    Decoded::At(Minute(minute), kind_of(channel, state, float_of(x), float_of(y)))
+    Decoded::At(
+        Minute(minute),
+        kind_of(channel, state, float_of(x), float_of(y)),
+    )
 }

@@ -93,14 +93,14 @@ returns-7 : tie.Need-returns-7
 returns-7 c =
     let found = c .before .before .before .before .before .r7 .given in
     λ t. rw (found .1)
-        (omega (
-          arith,
-          c .pair-cell3 .ensures,
-          c .before .number2 .ensures,
-          state-small (found .0 .0),
-          c .before .before .half .ensures .0,
-          c .before .before .before .biased3 .ensures .0,
-        ))
+    (omega (
+      arith,
+      c .pair-cell3 .ensures,
+      c .before .number2 .ensures,
+      state-small (found .0 .0),
+      c .before .before .half .ensures .0,
+      c .before .before .before .biased3 .ensures .0,
+    ))
 
 pub cell-of-spec : {M : Type 1} → statement M
 cell-of-spec =
