@@ -31,7 +31,7 @@ by-vapour-requires c κs =
     let start = c .before .before in
     let x = start .args in
     let l = within (x .dry .v) (x .wet .v) (x .pressure .v) (x .a .v) (start .pre .0 .limits) in
-    entry-range (x .dry .v) (x .d) (l .in-dry) (start .pre .0 .near-dry) .1
+    omega (arith, entry-range (x .dry .v) (x .d) (l .in-dry) (start .pre .0 .near-dry) .1, ice-range (x .wet .v) (x .i) (start .pre .1))
 
 returns : tie.Need-returns
 unfolding vapourPressure
