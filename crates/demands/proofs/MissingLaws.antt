@@ -5,7 +5,6 @@ use mathlib.Core.Bool.{Bool, true, false, _||_}
 use mathlib.Core.List.{List, [], _∷_, _++_}
 use Prim.Native.Nat.{ℕ, _-_}
 use lib.Dec.{eqb, ltb}
-use lib.IntN.{ℤ}
 use borrow.Author.Tests.{eqb-true, ltb-true, not-false}
 use Rattle.number.specs.Refusal.{Numbered, Answer, refused, given}
 use Rattle.number.proofs.Sizes.{and-true, impossible, never}

@@ -1,6 +1,6 @@
 -- Every answer of a store that was opened makes a record that the watch file takes: the minute is one that may be asked, and the
 -- figures are worked from readings within their limits. Assumes nothing.
-use mathlib.Core.Path.{_≡_, refl, sym, ap, subst, _∙_}
+use mathlib.Core.Path.{_≡_, refl, sym, subst, _∙_}
 use mathlib.Core.Bool.{true, false, cond}
 use mathlib.Core.List.{List, []}
 use Prim.Native.Nat.{ℕ, _-_, _<_}

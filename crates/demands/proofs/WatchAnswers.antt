@@ -30,6 +30,7 @@ use Rattle.vapour.specs.Vapour.{water, ice, Tables, AreTables}
 use Rattle.vapour.proofs.SaturationLaws.{near-test, near-by-test, near-one}
 use Rattle.vapour.proofs.DewLaws.{dew-test, dew-by-test}
 use Rattle.humidity.specs.Humidity.{vapourPressure}
+use Rattle.humidity.specs.Parts.{figuresBy}
 use Rattle.station.specs.Source.{heard}
 use Rattle.station.specs.Questions.{Answers, Tells}
 use Rattle.station.specs.Questions as asked
@@ -159,15 +160,7 @@ winds = (λ tables tabled. (refl, tested 260 125 25 40 48 60 refl), λ tables ta
 -- ---- humidity
 
 abbrev pub moist : ℕ → ℕ → ℕ → ℕ → ℤ → HumidityAnswer
-moist e saturation deficit relative dew =
-    humidity.Given
-    (record {
-      e = record { 0 = e };
-      saturation = record { 0 = saturation };
-      deficit = record { 0 = deficit };
-      relative = relative;
-      dew = record { 0 = record { v = dew } };
-    })
+moist e saturation deficit relative dew = humidity.Given (figuresBy e saturation deficit relative dew)
 
 -- any tables' entries of a bulb
 over-water : (tables : Tables) → AreTables tables → (t : ℤ) (n : ℕ) → inside bulb t ≡ true → T (near-test water t n) → tables .overWater t ≡ n

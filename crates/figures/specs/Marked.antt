@@ -17,7 +17,7 @@ use Rattle.pressure.specs.Pressure.{seaLevelAnswer}
 use Rattle.wind.specs.Answer.{IsWind}
 use Rattle.wind.specs.declared.TrueWind.the-variants.{Blows}
 use Rattle.humidity.specs.Humidity.{IsMoisture}
-use Rattle.humidity.specs.declared.HumidityFigures.{HumidityFigures}
+use Rattle.humidity.specs.Parts.{figuresBy}
 use Rattle.humidity.specs.declared.Moisture.the-variants.{Given}
 
 -- A row: what is given, and the figures that it comes to.
@@ -29,16 +29,6 @@ pub data Marked : Type 0 where
   -- the wet bulb's state, dry bulb, wet bulb, station pressure, A: e, saturation, deficit, relative humidity, dew point
   humidity : BulbState → ℤ → ℤ → ℤ → ℤ → ℕ → ℕ → ℕ → ℕ → ℤ → Marked
 
-abbrev pub figures : ℕ → ℕ → ℕ → ℕ → ℤ → HumidityFigures
-figures e saturation deficit relative dew =
-    record {
-      e = record { 0 = e };
-      saturation = record { 0 = saturation };
-      deficit = record { 0 = deficit };
-      relative = relative;
-      dew = record { 0 = record { v = dew } };
-    }
-
 -- What a row says: that the answer is given, and these figures.
 abbrev pub Says : Marked → Type 0
 Says (pressure unit h difference coefficient points reading t p) =
@@ -47,7 +37,7 @@ Says (pressure unit h difference coefficient points reading t p) =
     reading t
     ≡ given p
 Says (wind course ship apparent r v d) = IsWind course ship apparent r (Blows (record { 0 = v }) (record { 0 = d }))
-Says (humidity s dry wet p a e saturation deficit relative dew) = IsMoisture s dry wet p a (Given (figures e saturation deficit relative dew))
+Says (humidity s dry wet p a e saturation deficit relative dew) = IsMoisture s dry wet p a (Given (figuresBy e saturation deficit relative dew))
 
 abbrev pub AllSay : List Marked → Type 0
 AllSay [] = Unit

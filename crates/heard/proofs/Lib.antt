@@ -1,4 +1,5 @@
 pub mod StoreLaws
+pub mod WaterAsBefore
 pub mod FedLaws
 pub mod ReplacedLaws
 pub mod RefusalsInOrder

@@ -1,5 +1,5 @@
 -- A worked case from tests that are computed: entries and dew point by the series, the rest by their rules. Assumes nothing.
-use mathlib.Core.Path.{_≡_, sym}
+use mathlib.Core.Path.{_≡_}
 use mathlib.Core.Bool.{Bool, _&&_}
 use Prim.Native.Nat.{ℕ}
 use lib.Dec.{T}
@@ -15,7 +15,7 @@ use Rattle.humidity.specs.Humidity.{vapourPressure, EntriesFor, tests, m
 use Rattle.humidity.specs.declared.HumidityFigures.{HumidityFigures}
 use Rattle.humidity.specs.declared.Moisture.{Moisture}
 use Rattle.humidity.specs.declared.Moisture.the-variants.{Given}
-use Rattle.humidity.proofs.MoistureLaws.{none}
+use Rattle.humidity.proofs.MoistureLaws.{none, refused-so}
 
 -- the entries that a state asks for
 unfoldable pub entries-test : BulbState → ℤ → ℕ → ℕ → Bool
@@ -65,14 +65,4 @@ module _ (s : BulbState) (dry wet p a : ℤ) (w i : ℕ) where
   pub refused-by-tests : (d : ℕ) (m : Moisture) → T (entries-test s wet w i) → T (near-test water dry d)
       → moistureAs m ≡ answer (tests s dry wet p a d (vapourPressure s w i a p dry wet)) none
       → (m ≡ Given none → ⊥) → IsMoisture s dry wet p a m
-  refused-by-tests d m tw td first other =
-      record {
-        d = d;
-        w = w;
-        i = i;
-        near = λ l. near-by-test water dry d td;
-        entries = λ l c. entries-by-test s wet w i tw;
-        figures = none;
-        first = first;
-        worked = λ g. absurd (other g);
-      }
+  refused-by-tests d m tw td = refused-so s dry wet p a d w i (near-by-test water dry d td) (entries-by-test s wet w i tw) m

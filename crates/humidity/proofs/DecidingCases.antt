@@ -12,7 +12,7 @@ use Rattle.vapour.proofs.SaturationLaws.{near-test, near-by-test}
 use Rattle.vapour.proofs.DewLaws.{dew-test}
 use Rattle.vapour.specs.Vapour.{water}
 use Rattle.humidity.specs.Humidity.{waterFactor, iceFactor, parts, lessBy, exact, vapourPressure, IsMoisture}
-use Rattle.humidity.specs.declared.HumidityFigures.{HumidityFigures}
+use Rattle.humidity.specs.Parts.{figuresBy}
 use Rattle.humidity.specs.declared.Moisture.{Moisture}
 use Rattle.humidity.specs.declared.Moisture.the-variants.{Given, WetAboveDry, TooWarmForIce, UnknownOutsideRange, AboveSaturation}
 use Rattle.humidity.proofs.MoistureLaws.{too-warm}
@@ -21,17 +21,6 @@ use Rattle.humidity.proofs.ByTests.{entries-test, by-tests, refused-by-
 -- a temperature below zero
 abbrev pub below : ℕ → ℤ
 below n = negℤ (pos n)
-
--- e, saturation, deficit, relative humidity, dew point
-abbrev pub figures : ℕ → ℕ → ℕ → ℕ → ℤ → HumidityFigures
-figures e saturation deficit relative dew =
-    record {
-      e = record { 0 = e };
-      saturation = record { 0 = saturation };
-      deficit = record { 0 = deficit };
-      relative = relative;
-      dew = record { 0 = record { v = dew } };
-    }
 
 -- what a state and both bulbs come to
 abbrev pub Air : BulbState → ℤ → ℤ → Moisture → Type 0
@@ -67,8 +56,8 @@ unknown-by-the-bulbs = (refl, refl, refl)
 -- "dry = wet = -10.0 over ice: e 2.60, 91 %": relative humidity over water, where over ice it would be 100. And the wet bulb a tenth
 -- above the dry, which with water is refused.
 pub over-ice :
-    Air Ice (below 100) (below 100) (Given (figures 260 287 27 91 (below 112)))
-    × Air Ice (below 101) (below 100) (Given (figures 266 284 18 94 (below 109)))
+    Air Ice (below 100) (below 100) (Given (figuresBy 260 287 27 91 (below 112)))
+    × Air Ice (below 101) (below 100) (Given (figuresBy 266 284 18 94 (below 109)))
     × Air Water (below 101) (below 100) WetAboveDry
 unfolding answer vapourPressure nearest rounded near-test dew-test entries-test
 over-ice = (
@@ -81,7 +70,7 @@ over-ice = (
 
 -- 20: a wet bulb of 0.0, and of 0.1.
 pub too-warm-from :
-    Air Ice (pos 0) (pos 0) (Given (figures 611 611 0 100 (pos 0)))
+    Air Ice (pos 0) (pos 0) (Given (figuresBy 611 611 0 100 (pos 0)))
     × Air Ice (pos 0) (pos 1) TooWarmForIce
     × Air Unknown (pos 0) (pos 1) TooWarmForIce
 unfolding answer vapourPressure nearest rounded near-test dew-test entries-test
@@ -93,9 +82,9 @@ too-warm-from = (
 
 -- 21: a state unknown in air of -9.9 and 0.0, and of -10.0 and 0.1.
 pub in-doubt-from :
-    Air Unknown (below 99) (below 99) (Given (figures 262 289 27 91 (below 111)))
+    Air Unknown (below 99) (below 99) (Given (figuresBy 262 289 27 91 (below 111)))
     × Air Unknown (below 100) (below 100) UnknownOutsideRange
-    × Air Unknown (pos 0) (pos 0) (Given (figures 611 611 0 100 (pos 0)))
+    × Air Unknown (pos 0) (pos 0) (Given (figuresBy 611 611 0 100 (pos 0)))
     × Air Unknown (pos 1) (pos 0) UnknownOutsideRange
 unfolding answer vapourPressure nearest rounded near-test dew-test entries-test
 in-doubt-from = (
@@ -107,7 +96,7 @@ in-doubt-from = (
 
 -- 22: ice at -8.1 in air of -8.4 makes e 3.25, which is saturation; at -8.2 in air of -8.5 it makes 3.23, and saturation is 3.22.
 pub saturated-from :
-    Air Ice (below 84) (below 81) (Given (figures 325 325 0 100 (below 84)))
+    Air Ice (below 84) (below 81) (Given (figuresBy 325 325 0 100 (below 84)))
     × Air Ice (below 85) (below 82) AboveSaturation
 unfolding answer vapourPressure nearest rounded near-test dew-test entries-test
 saturated-from = (

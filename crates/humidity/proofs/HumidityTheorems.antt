@@ -1,13 +1,12 @@
 -- What holds of every answer: e never exceeds saturation, relative humidity is at most 100, and a watch file takes the figures, by
 -- tests 22 and 15; and with water on the wick 20, 21 and 22 never refuse. Assumes nothing.
 use mathlib.Core.Path.{_≡_, refl, sym, ap, subst, _∙_}
-use mathlib.Core.Bool.{Bool, true, false, not}
-use mathlib.Core.List.{List}
+use mathlib.Core.Bool.{true, false}
 use Prim.Native.Nat.{ℕ, _≤_}
 use native.Mathlib.Omega.{arith}
 use lib.IntN.{ℤ, pos}
 use borrow.Author.Tests.{leb-true, not-false}
-use Rattle.number.specs.Refusal.{Test, given, answer, HoldsAt}
+use Rattle.number.specs.Refusal.{given, answer, HoldsAt}
 use Rattle.number.proofs.RefusalLaws.{given-then, given-is}
 use Rattle.number.proofs.Sizes.{fails}
 use Rattle.quantity.specs.Limits.{inside, bulb}
@@ -53,9 +52,6 @@ module _ (s : BulbState) (dry wet p a : ℤ) where
         same = same;
       }
     where
-      ts : List (Test ℕ)
-      ts = tests s dry wet p a d e
-
       same : f ≡ h
       same = given-is (tests s dry wet p a d e) f h x
 

@@ -1,28 +1,21 @@
 -- What each way through the tests comes to: the list of tests, answered by what is known on that way. Assumes nothing.
-use mathlib.Core.Path.{_≡_, sym, ap, subst, _∙_}
-use mathlib.Core.Bool.{Bool, true, false}
+use mathlib.Core.Path.{_≡_, sym, subst, _∙_}
+use mathlib.Core.Bool.{true, false}
 use Prim.Native.Nat.{ℕ}
 use lib.IntN.{ℤ, pos}
 use Rattle.number.specs.Refusal.{answer}
 use Rattle.number.proofs.Sizes.{impossible}
 use Rattle.quantity.specs.declared.BulbState.{BulbState}
 use Rattle.vapour.specs.Vapour.{Near, water}
-use Rattle.humidity.specs.Humidity.{vapourPressure, EntriesFor, wetAboveDry, tooWarmForIce, unknownOutside, byVapour, withinLimits, moistureAs, IsMoisture}
-use Rattle.humidity.specs.Parts.{IsByVapour}
+use Rattle.humidity.specs.Humidity.{vapourPressure, EntriesFor, wetAboveDry, tooWarmForIce, unknownOutside, withinLimits, tests, moistureAs, IsMoisture}
+use Rattle.humidity.specs.Parts.{figuresBy, IsByVapour}
 use Rattle.humidity.specs.declared.HumidityFigures.{HumidityFigures}
 use Rattle.humidity.specs.declared.Moisture.{Moisture}
-use Rattle.humidity.specs.declared.Moisture.the-variants.{WetAboveDry, TooWarmForIce, UnknownOutsideRange, OutsideLimits}
+use Rattle.humidity.specs.declared.Moisture.the-variants.{Given, WetAboveDry, TooWarmForIce, UnknownOutsideRange, OutsideLimits}
 
 -- figures that nothing refers to, where there are none
-pub none : HumidityFigures
-none =
-    record {
-      e = record { 0 = 0 };
-      saturation = record { 0 = 0 };
-      deficit = record { 0 = 0 };
-      relative = 0;
-      dew = record { 0 = record { v = pos 0 } };
-    }
+abbrev pub none : HumidityFigures
+none = figuresBy 0 0 0 0 (pos 0)
 
 untrue : true ≡ false → ⊥
 untrue e = impossible (cc)
@@ -41,6 +34,21 @@ module _ (s : BulbState) (dry wet p a : ℤ) where
         figures = none;
         first = rw l;
         worked = λ e. impossible (cc);
+      }
+
+  -- a refusal, where the bulbs have their entries
+  pub refused-so : (d w i : ℕ) → Near water dry d → EntriesFor s wet w i → (m : Moisture)
+      → moistureAs m ≡ answer (tests s dry wet p a d (vapourPressure s w i a p dry wet)) none → (m ≡ Given none → ⊥) → IsMoisture s dry wet p a m
+  refused-so d w i near entries m first other =
+      record {
+        d = d;
+        w = w;
+        i = i;
+        near = λ l. near;
+        entries = λ l c. entries;
+        figures = none;
+        first = first;
+        worked = λ g. absurd (other g);
       }
 
   module _ (d : ℕ) (limits : withinLimits dry wet p a ≡ true) (near : Near water dry d) where
@@ -63,33 +71,13 @@ module _ (s : BulbState) (dry wet p a : ℤ) where
       -- 13
       pub above : wetAboveDry s dry wet ≡ true → IsMoisture s dry wet p a WetAboveDry
       unfolding answer
-      above x =
-          record {
-            d = d;
-            w = w;
-            i = i;
-            near = λ h. near;
-            entries = λ h k. entries;
-            figures = none;
-            first = rw (limits, x);
-            worked = λ e. impossible (cc);
-          }
+      above x = refused-so d w i near entries WetAboveDry (rw (limits, x)) (λ e. impossible (cc))
 
       module _ (bulbs : wetAboveDry s dry wet ≡ false) (cold : tooWarmForIce s wet ≡ false) where
         -- 21
         pub no-doubt : unknownOutside s dry ≡ true → IsMoisture s dry wet p a UnknownOutsideRange
         unfolding answer
-        no-doubt x =
-            record {
-              d = d;
-              w = w;
-              i = i;
-              near = λ h. near;
-              entries = λ h k. entries;
-              figures = none;
-              first = rw (limits, bulbs, cold, x);
-              worked = λ e. impossible (cc);
-            }
+        no-doubt x = refused-so d w i near entries UnknownOutsideRange (rw (limits, bulbs, cold, x)) (λ e. impossible (cc))
 
         -- else e and saturation decide
         pub by-vapour : unknownOutside s dry ≡ false → (m : Moisture) → IsByVapour (vapourPressure s w i a p dry wet) d m → IsMoisture s dry wet p a m

@@ -1,6 +1,6 @@
 -- Humidity refuses with the first of 7, 13, 20, 21, 22 and 15, in this order, whose reason holds, and gives figures where none does:
 -- the one law of refusals at its list. With water on the wick 20, 21 and 22 never refuse. Assumes nothing.
-use mathlib.Core.Path.{_≡_, refl, sym, ap, _∙_}
+use mathlib.Core.Path.{_≡_, refl, sym, _∙_}
 use mathlib.Core.Bool.{Bool, true, false, not}
 use mathlib.Core.List.{List, [], _∷_}
 use mathlib.Core.Logic.{_↔_}
@@ -11,9 +11,7 @@ use Rattle.number.specs.Refusal.{Test, refused, given, answer, Holds, First}
 use Rattle.number.proofs.RefusalLaws.{refused-exactly, given-exactly}
 use Rattle.quantity.specs.declared.BulbState.{BulbState}
 use Rattle.quantity.specs.declared.BulbState.the-variants.{Water}
-use Rattle.vapour.specs.Vapour.{Near, water}
-use Rattle.humidity.specs.Humidity.{vapourPressure, wetAboveDry, tooDry, withinLimits, tests, moistureAs, IsMoisture}
-use Rattle.humidity.specs.declared.HumidityFigures.{HumidityFigures}
+use Rattle.humidity.specs.Humidity.{vapourPressure, tooDry, withinLimits, tests, moistureAs, IsMoisture}
 use Rattle.humidity.specs.declared.Moisture.{Moisture}
 use Rattle.humidity.proofs.VapourPressureLaws.{water-under}
 
@@ -44,9 +42,6 @@ pub water-as-before : (dry wet p a : ℤ) (m : Moisture) (is : IsMoisture Water 
 unfolding answer
 water-as-before dry wet p a m is = is .first ∙ go (withinLimits dry wet p a) (not (leZ wet dry)) refl refl
   where
-    e : ℤ
-    e = vapourPressure Water (is .w) (is .i) a p dry wet
-
     go : (l x : Bool) → withinLimits dry wet p a ≡ l → not (leZ wet dry) ≡ x
         → answer (tests Water dry wet p a (is .d) (vapourPressure Water (is .w) (is .i) a p dry wet)) (is .figures)
         ≡ answer (waterTests dry wet p a (vapourPressure Water (is .w) (is .i) a p dry wet)) (is .figures)

@@ -38,6 +38,17 @@ largestFactor = 1057500
 abbrev pub largestExact : ℕ
 largestExact = 24506250000000000
 
+-- figures by their numbers: e, saturation, deficit, relative humidity, dew point
+abbrev pub figuresBy : ℕ → ℕ → ℕ → ℕ → ℤ → HumidityFigures
+figuresBy e saturation deficit relative dew =
+    record {
+      e = record { 0 = e };
+      saturation = record { 0 = saturation };
+      deficit = record { 0 = deficit };
+      relative = relative;
+      dew = record { 0 = record { v = dew } };
+    }
+
 -- the figures of e and saturation
 pub record FiguresOf (e : ℤ) (s : ℕ) (h : HumidityFigures) : Type 0 where
   pub is-e : pos (h .e .0) ≡ e

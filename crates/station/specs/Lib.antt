@@ -2,3 +2,4 @@ pub mod Source
 pub mod Told
 pub mod Questions
 pub mod Parts
+pub mod Before

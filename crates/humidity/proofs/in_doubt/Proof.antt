@@ -1,11 +1,10 @@
 -- `in_doubt` meets its contract: 21, then e over ice or the mean of both decides. Assumes nothing.
 use mathlib.Core.Path.{_≡_, refl, sym, ap, ap₂, subst, _∙_}
-use mathlib.Core.Bool.{Bool, false, not}
+use mathlib.Core.Bool.{false, not}
 use Prim.Native.Nat.{_*_}
 use native.Mathlib.Omega.{arith}
 use lib.IntN.{ℤ, _+ℤ_}
 use Rattle.number.specs.Round.{rounded}
-use Rattle.quantity.specs.Limits.{inside, doubtful}
 use Rattle.quantity.specs.declared.BulbState.the-variants.{Unknown}
 use Rattle.vapour.proofs.TableLaws.{entry-range}
 use Rattle.humidity.specs.Humidity.{exact, parts, vapourPressure, unknownOutside, IsMoisture}

@@ -1,5 +1,5 @@
 -- `on_ice` meets its contract: e decides. Assumes nothing.
-use mathlib.Core.Path.{_≡_, refl, ap, subst, _∙_}
+use mathlib.Core.Path.{refl, ap, subst, _∙_}
 use native.Mathlib.Omega.{arith}
 use lib.IntN.{ℤ}
 use Rattle.number.specs.Round.{rounded}
@@ -10,7 +10,6 @@ use Rattle.humidity.specs.Parts.{IsByVapour}
 use Rattle.humidity.proofs.VapourPressureLaws.{within, sized}
 use Rattle.humidity.proofs.MoistureLaws.{by-vapour}
 use Rattle.humidity.proofs.IceLaws.{ice-range, cold}
-use borrow.Author.Needs.{needs}
 use Rattle.humidity.proofs.on_ice.Statement.{statement}
 use Rattle.humidity.proofs.on_ice.Tie as tie
 use Rattle.humidity.proofs.by_vapour.Reads as by-vapour-reads

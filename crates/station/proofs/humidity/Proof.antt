@@ -6,7 +6,6 @@ use mathlib.Core.List.{List, [], _∷_}
 use Prim.Native.Nat.{ℕ}
 use denote.Ref.{now}
 use lib.Dec.{lit<}
-use lib.IntN.{ℤ}
 use Rattle.number.specs.Refusal.{Numbered, Test, Answer}
 use Rattle.message.specs.Receive.{entryOf}
 use Rattle.message.specs.declared.Reading.{Reading}

@@ -1,6 +1,6 @@
 -- `saturation_over_ice` meets its contract: outside the table by the range function, else the entry at its place. Assumes nothing.
 use mathlib.Core.Path.{_≡_, sym, ap, subst, _∙_}
-use mathlib.Core.Bool.{Bool, true}
+use mathlib.Core.Bool.{true}
 use lib.IntN.{ℤ}
 use borrow.Author.Tests.{not-true, not-false}
 use Rattle.quantity.specs.Limits.{inside, frost}
