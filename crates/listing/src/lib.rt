@@ -8,6 +8,7 @@ ghost use Rattle.text.specs.Text.{field, fieldOf, Put};
 ghost use Rattle.listing.specs.Listing.{letter, bodyText, recordLine, recordLines, headLine, refusedLine, listingOf, Lists};
 ghost use Rattle.watchfile.specs.Format.{DewRule, reading};
 use number::Kept;
+use reader::RecordFound;
 use reader::Verdict;
 use watchfile::Body;
 use watchfile::RECORDS;
@@ -115,15 +116,20 @@ fn put_record(text: &mut [u8], at: usize, r: Record) -> usize
     text::put_byte(text, end, b'\n')
 }
 
-// Puts the lines of the first `count` records.
-fn put_records(text: &mut [u8], at: usize, count: usize, records: [Record; RECORDS]) -> usize
-    requires { ⌜ (count ≤ 48) × (at ≤ length (now text)) ⌝ }
-    ensures { λ r. ⌜ Put (now (text .entry)) (now (text .exit)) at (recordLines (take count records)) r ⌝ }
+// Puts the lines of the first `count` records of a file.
+fn put_records(text: &mut [u8], at: usize, count: usize, file: &[u8]) -> usize
+    requires { ⌜ at ≤ length (now text) ⌝ }
+    ensures { λ r. ⌜ Put (now (text .entry)) (now (text .exit)) at (linesFrom (now (file .entry)) 0 count) r ⌝ }
 {
     let mut place = at;
     let mut i = 0;
     while i < count {
-        place = put_record(text, place, records[i]);
+        match reader::record(file, i) {
+            RecordFound::Found(r) => {
+                place = put_record(text, place, r);
+            }
+            RecordFound::Nowhere => {}
+        }
         i += 1;
     }
     place
@@ -148,29 +154,25 @@ fn put_refusal(text: &mut [u8], place: usize) -> usize
 }
 
 // Puts the listing of a good file.
-fn put_listing(text: &mut [u8], count: usize, records: [Record; RECORDS]) -> usize
-    requires { ⌜ count ≤ 48 ⌝ }
-    ensures { λ r. ⌜ Put (now (text .entry)) (now (text .exit)) 0 (headLine count ++ recordLines (take count records)) r ⌝ }
+fn put_listing(text: &mut [u8], count: usize, file: &[u8]) -> usize
+    ensures { λ r. ⌜ Put (now (text .entry)) (now (text .exit)) 0 (headLine count ++ linesFrom (now (file .entry)) 0 count) r ⌝ }
 {
     let behind = put_head(text, count);
-    put_records(text, behind, count, records)
+    put_records(text, behind, count, file)
 }
 
 // Puts the listing of a watch file: a line for the file and one for each record, or one that says where it is broken.
 fn put_file(text: &mut [u8], file: &[u8]) -> usize
     ensures { λ r. ⌜ ((rule : ℕ → ℤ) → DewRule rule → Put (now (text .entry)) (now (text .exit)) 0 (listingOf (reading rule (now (file .entry)))) r) ⌝ }
 {
-    let read = reader::read(file);
-    let verdict = read.verdict;
-    let records = read.records;
-    match verdict {
-        Verdict::Good(count) => put_listing(text, count, records),
+    match reader::read(file) {
+        Verdict::Good(count) => put_listing(text, count, file),
         Verdict::Broken(place) => put_refusal(text, place),
     }
 }
 
-// Puts the listing of a watch file at the start of the lent bytes and says how long it is, or gives refusal 17 and leaves every byte.
-pub fn list(file: &[u8], text: &mut [u8]) -> Listed
+// The same into room that may be too short for it: it is put elsewhere first.
+fn list_short(file: &[u8], text: &mut [u8]) -> Listed
     ensures { λ r. ⌜ ((rule : ℕ → ℤ) → DewRule rule → Lists (listingOf (reading rule (now (file .entry)))) (now (text .entry)) (now (text .exit)) r) ⌝ }
 {
     let mut whole = [0u8; TEXT];
@@ -180,4 +182,14 @@ pub fn list(file: &[u8], text: &mut [u8]) -> Listed
     }
     text::put_bytes(text, 0, &whole[..n]);
     Listed::Text(n)
+}
+
+// Puts the listing of a watch file at the start of the lent bytes and says how long it is, or gives refusal 17 and leaves every byte.
+pub fn list(file: &[u8], text: &mut [u8]) -> Listed
+    ensures { λ r. ⌜ ((rule : ℕ → ℤ) → DewRule rule → Lists (listingOf (reading rule (now (file .entry)))) (now (text .entry)) (now (text .exit)) r) ⌝ }
+{
+    if text.len() < TEXT {
+        return list_short(file, text);
+    }
+    Listed::Text(put_file(text, file))
 }

@@ -1,23 +1,17 @@
--- The whole of a file: what is handed back of one answer is handed back of an equal one, and what its contents come to. Assumes nothing.
-use mathlib.Core.Path.{_≡_, sym, ap, _∙_, subst}
+-- The whole of a file: what its contents come to. Assumes nothing.
+use mathlib.Core.Path.{_≡_, sym, ap, _∙_}
 use mathlib.Core.List.{List}
 use Prim.Native.Nat.{ℕ, _≤_}
 use lib.ListN.{length}
-use Rattle.number.specs.Refusal.{Answer, refused, given}
+use Rattle.number.specs.Refusal.{refused, given}
 use Rattle.number.proofs.RefusalLaws.{given-is}
 use Rattle.watchfile.specs.Fields.{Field, fieldTests}
 use Rattle.watchfile.specs.Format.{rowsFields, startOf}
-use Rattle.watchfile.specs.declared.Record.{Record}
 use Rattle.watchfile.proofs.FieldLaws.{given-passed}
-use Rattle.reader.specs.Read.{HandsBack}
 use Rattle.reader.specs.Work.{contentsAs, contentsOf}
 use Rattle.reader.specs.declared.Verdict.{Verdict}
 use Rattle.reader.specs.declared.Verdict.the-variants.{Good, Broken}
-use Rattle.reader.specs.declared.FileRead.{FileRead}
 use Rattle.reader.proofs.ContentsLaws.{rows-within}
-
-pub hands : {a b : Answer ℕ (List Record)} (r : FileRead) → a ≡ b → HandsBack b r → HandsBack a r
-hands r e h = subst (λ (x : Answer ℕ (List Record)). HandsBack x r) (sym e) h
 
 -- the fields of the contents of so many records
 abbrev pub rows : List ℕ → ℕ → List Field

@@ -12,8 +12,8 @@ use Rattle.number.proofs.RefusalLaws.{refused-exactly, given-exactly}
 use Rattle.watchfile.specs.Fields.{fieldTests}
 use Rattle.watchfile.specs.Format.{fields, records, reading, brokenAt, fileTest, fileTests}
 use Rattle.watchfile.specs.declared.Record.{Record}
-use Rattle.reader.specs.Read.{verdictAs, counted, HandsBack}
-use Rattle.reader.specs.declared.FileRead.{FileRead}
+use Rattle.reader.specs.Read.{verdictAs, counted}
+use Rattle.reader.specs.declared.Verdict.{Verdict}
 
 -- the tests of a file in their order, each with its place
 abbrev pub tests : (ℕ → ℤ) → List ℕ → List (Test ℕ)
@@ -39,10 +39,10 @@ unfolding answer
 tests-counted [] rs = refl
 tests-counted (t ∷ ts) rs = one-counted (t .holds) (t .refusal) (answer ts rs) _ (tests-counted ts rs)
 
-pub read-refused : (rule : ℕ → ℤ) (s : List ℕ) (r : FileRead) → HandsBack (reading rule s) r → (n : Numbered) →
-    (verdictAs (r .verdict) ≡ refused n) ↔ First (fileTests rule s) n
+pub read-refused : (rule : ℕ → ℤ) (s : List ℕ) (r : Verdict) → verdictAs r ≡ counted (reading rule s) → (n : Numbered) →
+    (verdictAs r ≡ refused n) ↔ First (fileTests rule s) n
 unfolding reading
 read-refused rule s r h n =
     let law = refused-exactly (length (records s)) (fileTests rule s) n in
-    let is = h .verdict ∙ tests-counted (tests rule s) (records s) in
+    let is = h ∙ tests-counted (tests rule s) (records s) in
     (λ e. law .0 (sym is ∙ e), λ f. is ∙ law .1 f)

@@ -1,10 +1,12 @@
 -- A body whose fields are right is whole, and its fields stand in order. By its kind. Assumes nothing.
+use mathlib.Core.Path.{_≡_}
 use mathlib.Core.Bool.{Bool, true, false, cond}
 use mathlib.Core.List.{List}
 use Prim.Native.Nat.{ℕ, _≤_}
 use native.Mathlib.Omega.{arith}
-use lib.Dec.{eqb}
+use lib.Dec.{eqb, lit≤}
 use lib.IntN.{ℤ}
+use borrow.Author.Tests.{ne-eqb}
 use Rattle.number.proofs.Sizes.{either-way}
 use Rattle.watchfile.specs.Rules.{sizeOf}
 use Rattle.watchfile.specs.Format.{pressureFields, tendencyFields, windFields, humidityFields, bodyFields}
@@ -26,3 +28,13 @@ module _ (rule : ℕ → ℤ) (s : List ℕ) where
       either-way Ordered (eqb kind 1) _ _ (omega arith, tt)
       (either-way Ordered (eqb kind 2) _ _ (omega arith, (omega arith, tt))
       (either-way Ordered (eqb kind 3) _ _ (omega arith, (omega arith, tt)) (omega arith, (omega arith, (omega arith, (omega arith, (omega arith, tt)))))))
+
+pub size-least : (kind : ℕ) → 2 ≤ sizeOf kind
+size-least kind =
+    either-way (λ n. 2 ≤ n) (eqb kind 1) _ _ (lit≤ tt)
+    (either-way (λ n. 2 ≤ n) (eqb kind 2) _ _ (lit≤ tt)
+    (either-way (λ n. 2 ≤ n) (eqb kind 3) _ _ (lit≤ tt) (lit≤ tt)))
+
+-- a body of none of the first three kinds has the size of the last
+pub size-last : (kind : ℕ) → (kind ≡ 1 → ⊥) → (kind ≡ 2 → ⊥) → (kind ≡ 3 → ⊥) → sizeOf kind ≡ 9
+size-last kind a b c = rw (ne-eqb kind 1 a, ne-eqb kind 2 b, ne-eqb kind 3 c)

@@ -1,15 +1,14 @@
--- What a verdict says of the file that was read: a broken one is broken there and nowhere else, and of a good one the first places
--- hold its records. Assumes nothing.
-use mathlib.Core.Path.{_≡_, sym, ap, _∙_}
+-- What a verdict says of the file that was read: a broken one is broken there and nowhere else, and a good one has so many records.
+-- Assumes nothing.
+use mathlib.Core.Path.{_≡_, refl, ap}
 use mathlib.Core.List.{List}
-use Prim.Native.Nat.{ℕ, _-_}
-use lib.ListN.{length, getD, take, replicate}
-use lib.Seq.{take-append-seam}
+use Prim.Native.Nat.{ℕ}
+use lib.ListN.{length, getD}
 use Rattle.number.specs.Refusal.{Answer, refused, given, Numbered}
 use Rattle.number.proofs.Sizes.{impossible}
-use Rattle.watchfile.specs.Format.{blank, brokenAt}
+use Rattle.watchfile.specs.Format.{brokenAt}
 use Rattle.watchfile.specs.declared.Record.{Record}
-use Rattle.reader.specs.Read.{verdictAs, counted, places}
+use Rattle.reader.specs.Read.{verdictAs, counted}
 use Rattle.reader.specs.declared.Verdict.{Verdict}
 use Rattle.reader.specs.declared.Verdict.the-variants.{Good, Broken}
 
@@ -27,10 +26,6 @@ pub broken-is : (a : Answer ℕ (List Record)) (place : ℕ) → counted a ≡ r
 broken-is (refused k) place e = ap refused (same-place k place e)
 broken-is (given rs) place e = cc
 
-pub good-is : (a : Answer ℕ (List Record)) (n : ℕ) (all : List Record) → counted a ≡ given n → all ≡ places a
-    → (a ≡ given (take n all)) × (length (take n all) ≡ n)
-good-is (refused k) n all e f = impossible (cc)
-good-is (given rs) n all e f =
-    let many : length rs ≡ n = cc in
-    let front : take n all ≡ rs = rw (sym many, f) (take-append-seam rs (replicate (48 - length rs) blank)) in
-    (ap given (sym front), ap length front ∙ many)
+pub good-is : (a : Answer ℕ (List Record)) (n : ℕ) → counted a ≡ given n → (rs : List Record) × (a ≡ given rs) × (length rs ≡ n)
+good-is (refused k) n e = impossible (cc)
+good-is (given rs) n e = (rs, refl, cc)

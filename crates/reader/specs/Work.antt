@@ -1,5 +1,6 @@
 -- What the reader's own functions find: the answer of a part of the file.
 use mathlib.Core.Path.{_≡_}
+use mathlib.Core.Bool.{cond}
 use mathlib.Core.List.{List}
 use Prim.Native.Nat.{ℕ}
 use lib.IntN.{ℤ}
@@ -7,14 +8,16 @@ use lib.ListN.{getD, length, drop}
 use Rattle.number.specs.Refusal.{Answer, refused, given, answer}
 use Rattle.octets.specs.Bytes.{le32}
 use Rattle.watchfile.specs.Fields.{Field, fieldTests}
-use Rattle.watchfile.specs.Format.{humidityFields, bodyOf, rowFields, rowsFields, bodiesFields, recordsFrom, startOf}
-use Rattle.watchfile.specs.declared.Body.{Body}
+use Rattle.watchfile.specs.Format.{humidityFields, rowFields, rowsFields, bodiesFields, recordsFrom, startOf}
 use Rattle.watchfile.specs.declared.Record.{Record}
-use Rattle.reader.specs.declared.BodyRead.{BodyRead}
-use Rattle.reader.specs.declared.BodyRead.the-variants as bodies
+use Rattle.reader.specs.Read.{rowAt, offsetAt, isThere}
+use Rattle.reader.specs.declared.BodyTested.{BodyTested}
+use Rattle.reader.specs.declared.BodyTested.the-variants as tested
 use Rattle.reader.specs.declared.Row.{Row}
 use Rattle.reader.specs.declared.RowRead.{RowRead}
 use Rattle.reader.specs.declared.RowRead.the-variants as rows
+use Rattle.reader.specs.declared.Place.{Place}
+use Rattle.reader.specs.declared.Place.the-variants as places
 use Rattle.reader.specs.declared.Verdict.{Verdict}
 use Rattle.reader.specs.declared.Verdict.the-variants as verdicts
 
@@ -34,14 +37,14 @@ rowAs (rows.Broken place) = refused place
 abbrev pub RowFound : ℕ → ℕ → List ℕ → RowRead → Type 0
 RowFound next before s r = rowAs r ≡ found s (rowFields s next before) (rowOf s)
 
--- ---- a body, at the start of s
+-- ---- a body, at the start of s: right, or the place of its first wrong field
 
-abbrev pub bodyAs : BodyRead → Answer ℕ Body
-bodyAs (bodies.Good b) = given b
-bodyAs (bodies.Broken place) = refused place
+abbrev pub bodyAs : BodyTested → Answer ℕ (Unit {0})
+bodyAs tested.Right = given tt
+bodyAs (tested.Wrong place) = refused place
 
-abbrev pub BodyFound : (List ℕ → List Field) → ℕ → List ℕ → BodyRead → Type 0
-BodyFound fields kind s r = bodyAs r ≡ found s (fields s) (bodyOf kind s)
+abbrev pub BodyHas : List Field → List ℕ → BodyTested → Type 0
+BodyHas fields s r = bodyAs r ≡ found s fields tt
 
 -- The fields of a humidity behind e and saturation.
 abbrev pub derivedFields : (ℕ → ℤ) → List ℕ → List Field
@@ -60,3 +63,8 @@ contentsOf s count = found s (rowsFields s count 4 (startOf count) 0) count
 -- Its bodies: the records, or the place where they are broken.
 abbrev pub bodiesOf : (ℕ → ℤ) → List ℕ → ℕ → Answer ℕ (List Record)
 bodiesOf rule s count = found s (bodiesFields rule s count 4 (startOf count)) (recordsFrom s count 4 (startOf count))
+
+-- ---- a single record
+
+abbrev pub placeOf : List ℕ → ℕ → Place
+placeOf s i = cond (isThere s i) (places.At (rowOf (rowAt s i)) (offsetAt s i)) places.Nowhere

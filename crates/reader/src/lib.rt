@@ -3,17 +3,18 @@ ghost use mathlib.Core.Path.{_≡_};
 ghost use mathlib.Core.Bool.{_&&_};
 ghost use Prim.Native.Nat.{ℕ, _+_, _≤_};
 ghost use lib.Dec.{eqb};
-ghost use lib.IntN.{ℤ};
+ghost use lib.IntN.{ℤ, pos};
 ghost use lib.ListN.{length};
-ghost use Rattle.number.specs.Refusal.{refused, given};
+ghost use Rattle.number.specs.Refusal.{given};
 ghost use Rattle.octets.specs.Bytes.{le16, le32};
-ghost use Rattle.watchfile.specs.Format.{DewRule, pressureFields, tendencyFields, windFields, humidityFields, bodyFields, startOf, reading};
-ghost use Rattle.reader.specs.Read.{HandsBack};
-ghost use Rattle.reader.specs.Work.{derivedFields, BodyFound, RowFound, contentsAs, contentsOf, bodiesOf};
-use watchfile::BLANK;
-use watchfile::Body;
+ghost use Rattle.watchfile.specs.Rules.{sizeOf};
+ghost use Rattle.watchfile.specs.Format.{DewRule, kept, pressureFields, tendencyFields, windFields, humidityFields, bodyFields, bodyOf, bodyFigures, startOf, reading};
+ghost use Rattle.reader.specs.Read.{verdictAs, counted, recordAt};
+ghost use Rattle.reader.specs.Work.{derivedFields, BodyHas, RowFound, contentsAs, contentsOf, bodiesOf, placeOf};
+use number::Kept;
+use watchfile::Figures;
+use watchfile::NOTHING;
 use watchfile::RECORDS;
-use watchfile::Record;
 
 // What a file comes to.
 pub enum Verdict {
@@ -21,12 +22,6 @@ pub enum Verdict {
     Good(usize),
     // 18: the place
     Broken(usize),
-}
-
-// A file that was read. Behind the last record, and where the file is broken, the places hold blank records.
-pub struct FileRead {
-    pub verdict: Verdict,
-    pub records: [Record; RECORDS],
 }
 
 // A row of the contents.
@@ -42,11 +37,18 @@ enum RowRead {
     Broken(usize),
 }
 
+// Where a record stands.
+enum Place {
+    // its row, and the offset of its body
+    At(Row, usize),
+    Nowhere,
+}
+
 // What a body comes to.
-enum BodyRead {
-    Good(Body),
+enum BodyTested {
+    Right,
     // the place in the body
-    Broken(usize),
+    Wrong(usize),
 }
 
 // The places of the head's fields.
@@ -102,131 +104,125 @@ fn get32(s: &[u8], k: usize) -> u32
     octets::four(s[k], s[k + 1], s[k + 2], s[k + 3])
 }
 
-// The body of a pressure, at the start of s.
-fn read_pressure(s: &[u8]) -> BodyRead
-    ensures { λ r. ⌜ BodyFound pressureFields 1 (now (s .entry)) r ⌝ }
+// Whether the fields of a pressure, at the start of s, are right: or the place of the first that is wrong.
+fn test_pressure(s: &[u8]) -> BodyTested
+    ensures { λ r. ⌜ BodyHas (pressureFields (now (s .entry))) (now (s .entry)) r ⌝ }
 {
     if s.len() < 2 {
-        return BodyRead::Broken(s.len());
+        return BodyTested::Wrong(s.len());
     }
     let pressure = get16(s, PRESSURE);
     if watchfile::pressure_right(pressure) {
-        return BodyRead::Good(Body::Pressure(pressure));
+        return BodyTested::Right;
     }
-    BodyRead::Broken(PRESSURE)
+    BodyTested::Wrong(PRESSURE)
 }
 
-// The body of a tendency, at the start of s.
-fn read_tendency(s: &[u8]) -> BodyRead
-    ensures { λ r. ⌜ BodyFound tendencyFields 2 (now (s .entry)) r ⌝ }
+// The same of a tendency.
+fn test_tendency(s: &[u8]) -> BodyTested
+    ensures { λ r. ⌜ BodyHas (tendencyFields (now (s .entry))) (now (s .entry)) r ⌝ }
 {
     if s.len() < 2 {
-        return BodyRead::Broken(s.len());
+        return BodyTested::Wrong(s.len());
     }
     let change = octets::signed(get16(s, CHANGE));
     if !watchfile::change_right(change) {
-        return BodyRead::Broken(CHANGE);
+        return BodyTested::Wrong(CHANGE);
     }
     if s.len() < 3 {
-        return BodyRead::Broken(s.len());
+        return BodyTested::Wrong(s.len());
     }
     let absent = s[ABSENT];
     if watchfile::absent_right(absent) {
-        return BodyRead::Good(Body::Tendency { change, absent });
+        return BodyTested::Right;
     }
-    BodyRead::Broken(ABSENT)
+    BodyTested::Wrong(ABSENT)
 }
 
-// The body of a wind, at the start of s.
-fn read_wind(s: &[u8]) -> BodyRead
-    ensures { λ r. ⌜ BodyFound windFields 3 (now (s .entry)) r ⌝ }
+// The same of a wind.
+fn test_wind(s: &[u8]) -> BodyTested
+    ensures { λ r. ⌜ BodyHas (windFields (now (s .entry))) (now (s .entry)) r ⌝ }
 {
     if s.len() < 2 {
-        return BodyRead::Broken(s.len());
+        return BodyTested::Wrong(s.len());
     }
     let speed = get16(s, SPEED);
     if !watchfile::speed_right(speed) {
-        return BodyRead::Broken(SPEED);
+        return BodyTested::Wrong(SPEED);
     }
     if s.len() < 4 {
-        return BodyRead::Broken(s.len());
+        return BodyTested::Wrong(s.len());
     }
     let direction = get16(s, DIRECTION);
     if watchfile::direction_right(speed, direction) {
-        return BodyRead::Good(Body::Wind { speed, direction });
+        return BodyTested::Right;
     }
-    BodyRead::Broken(DIRECTION)
+    BodyTested::Wrong(DIRECTION)
 }
 
-// The body of a humidity, at the start of s: e is tested once saturation is whole, and before it.
-fn read_humidity(s: &[u8]) -> BodyRead
-    ensures { λ r. ⌜ ((rule : ℕ → ℤ) → DewRule rule → BodyFound (humidityFields rule) 4 (now (s .entry)) r) ⌝ }
+// The same of a humidity: e is tested once saturation is whole, and before it.
+fn test_humidity(s: &[u8]) -> BodyTested
+    ensures { λ r. ⌜ ((rule : ℕ → ℤ) → DewRule rule → BodyHas (humidityFields rule (now (s .entry))) (now (s .entry)) r) ⌝ }
 {
     if s.len() < 4 {
-        return BodyRead::Broken(s.len());
+        return BodyTested::Wrong(s.len());
     }
     let e = get16(s, E);
     let saturation = get16(s, SATURATION);
     let e_right = watchfile::e_right(saturation, e);
     let saturation_right = watchfile::saturation_right(saturation);
     if !e_right {
-        return BodyRead::Broken(E);
+        return BodyTested::Wrong(E);
     }
     if !saturation_right {
-        return BodyRead::Broken(SATURATION);
+        return BodyTested::Wrong(SATURATION);
     }
-    read_derived(s, e, saturation)
+    test_derived(s, e, saturation)
 }
 
-// The rest of a humidity's body: the three fields that follow from e and saturation.
-fn read_derived(s: &[u8], e: u16, saturation: u16) -> BodyRead
+// The rest of a humidity: the three fields that follow from e and saturation.
+fn test_derived(s: &[u8], e: u16, saturation: u16) -> BodyTested
     requires { ⌜ (4 ≤ length (now s)) × (e ≡ le16 (now s) 0) × (saturation ≡ le16 (now s) 2) ⌝ }
-    ensures { λ r. ⌜ ((rule : ℕ → ℤ) → DewRule rule → BodyFound (derivedFields rule) 4 (now (s .entry)) r) ⌝ }
+    ensures { λ r. ⌜ ((rule : ℕ → ℤ) → DewRule rule → BodyHas (derivedFields rule (now (s .entry))) (now (s .entry)) r) ⌝ }
 {
     if s.len() < 6 {
-        return BodyRead::Broken(s.len());
+        return BodyTested::Wrong(s.len());
     }
     let deficit = get16(s, DEFICIT);
     if !watchfile::deficit_right(e, saturation, deficit) {
-        return BodyRead::Broken(DEFICIT);
+        return BodyTested::Wrong(DEFICIT);
     }
     if s.len() < 7 {
-        return BodyRead::Broken(s.len());
+        return BodyTested::Wrong(s.len());
     }
     let relative = s[RELATIVE];
     if !watchfile::relative_right(e, saturation, relative) {
-        return BodyRead::Broken(RELATIVE);
+        return BodyTested::Wrong(RELATIVE);
     }
     if s.len() < 9 {
-        return BodyRead::Broken(s.len());
+        return BodyTested::Wrong(s.len());
     }
     let dew = octets::signed(get16(s, DEW));
     if watchfile::dew_right(e, dew) {
-        return BodyRead::Good(Body::Humidity {
-            e,
-            saturation,
-            deficit,
-            relative,
-            dew,
-        });
+        return BodyTested::Right;
     }
-    BodyRead::Broken(DEW)
+    BodyTested::Wrong(DEW)
 }
 
-// The body of a kind, at the start of s.
-fn read_body(s: &[u8], kind: u8) -> BodyRead
-    ensures { λ r. ⌜ ((rule : ℕ → ℤ) → DewRule rule → BodyFound (bodyFields rule kind) kind (now (s .entry)) r) ⌝ }
+// The same of a body of a kind.
+fn test_body(s: &[u8], kind: u8) -> BodyTested
+    ensures { λ r. ⌜ ((rule : ℕ → ℤ) → DewRule rule → BodyHas (bodyFields rule kind (now (s .entry))) (now (s .entry)) r) ⌝ }
 {
     if kind == 1 {
-        return read_pressure(s);
+        return test_pressure(s);
     }
     if kind == 2 {
-        return read_tendency(s);
+        return test_tendency(s);
     }
     if kind == 3 {
-        return read_wind(s);
+        return test_wind(s);
     }
-    read_humidity(s)
+    test_humidity(s)
 }
 
 // The row at the start of s, of a record whose body has to start at `next`, behind a record of rank `before`.
@@ -288,22 +284,11 @@ fn contents(file: &[u8], count: usize) -> Verdict
     Verdict::Good(count)
 }
 
-// What a broken file hands back.
-fn broken(place: usize) -> FileRead
-    ensures { λ r. ⌜ HandsBack (refused place) r ⌝ }
-{
-    FileRead {
-        verdict: Verdict::Broken(place),
-        records: [BLANK; RECORDS],
-    }
-}
-
-// What the bodies hand back, each read from its own offset, where the contents are right.
-fn bodies(file: &[u8], count: usize) -> FileRead
+// Whether the bodies are right, each at its own offset, where the contents are: so many records, or the place of the first wrong field.
+fn bodies(file: &[u8], count: usize) -> Verdict
     requires { ⌜ (count ≤ 48) × (contentsOf (now file) count ≡ given count) × (startOf count ≤ length (now file)) ⌝ }
-    ensures { λ r. ⌜ ((rule : ℕ → ℤ) → DewRule rule → HandsBack (bodiesOf rule (now (file .entry)) count) r) ⌝ }
+    ensures { λ r. ⌜ ((rule : ℕ → ℤ) → DewRule rule → verdictAs r ≡ counted (bodiesOf rule (now (file .entry)) count)) ⌝ }
 {
-    let mut records = [BLANK; RECORDS];
     let mut i: usize = 0;
     let mut row: usize = 4;
     let mut end: usize = 4 + 8 * count;
@@ -311,13 +296,11 @@ fn bodies(file: &[u8], count: usize) -> FileRead
         let head = &file[row..];
         let kind = head[KIND];
         let at = get16(head, OFFSET) as usize;
-        let minute = get32(head, MINUTE);
-        match read_body(&file[at..], kind) {
-            BodyRead::Good(body) => {
-                records[i] = Record { minute, body };
-            }
-            BodyRead::Broken(k) => {
-                return broken(at + k);
+        match test_body(&file[at..], kind) {
+            BodyTested::Right => {}
+            BodyTested::Wrong(k) => {
+                let place = at + k;
+                return Verdict::Broken(place);
             }
         }
         end = at + watchfile::size_of(kind);
@@ -325,12 +308,9 @@ fn bodies(file: &[u8], count: usize) -> FileRead
         i += 1;
     }
     if end < file.len() {
-        return broken(end);
+        return Verdict::Broken(end);
     }
-    FileRead {
-        verdict: Verdict::Good(count),
-        records,
-    }
+    Verdict::Good(count)
 }
 
 // Whether two bytes are the label.
@@ -340,31 +320,165 @@ fn label_right(a: u8, b: u8) -> bool
     a == 0x57 && b == 0x54
 }
 
-// The records of a file, or 18 with the place where it is broken.
-pub fn read(file: &[u8]) -> FileRead
-    ensures { λ r. ⌜ ((rule : ℕ → ℤ) → DewRule rule → HandsBack (reading rule (now (file .entry))) r) ⌝ }
+// Whether a file is good: how many records it has, or 18 with the place where it is broken.
+pub fn read(file: &[u8]) -> Verdict
+    ensures { λ r. ⌜ ((rule : ℕ → ℤ) → DewRule rule → verdictAs r ≡ counted (reading rule (now (file .entry)))) ⌝ }
 {
     if file.len() < 2 {
-        return broken(file.len());
+        return Verdict::Broken(file.len());
     }
     if !label_right(file[0], file[1]) {
-        return broken(LABEL);
+        return Verdict::Broken(LABEL);
     }
     if file.len() < 3 {
-        return broken(file.len());
+        return Verdict::Broken(file.len());
     }
     if file[VERSION] != 1 {
-        return broken(VERSION);
+        return Verdict::Broken(VERSION);
     }
     if file.len() < 4 {
-        return broken(file.len());
+        return Verdict::Broken(file.len());
     }
     let count = file[COUNT] as usize;
     if count > RECORDS {
-        return broken(COUNT);
+        return Verdict::Broken(COUNT);
     }
     match contents(file, count) {
         Verdict::Good(_) => bodies(file, count),
-        Verdict::Broken(place) => broken(place),
+        Verdict::Broken(place) => Verdict::Broken(place),
+    }
+}
+
+// Where the record with an index stands: its row of the contents, and the body of its kind at the offset that the row names.
+fn find(file: &[u8], i: usize) -> Place
+    ensures { λ r. ⌜ r ≡ placeOf (now (file .entry)) i ⌝ }
+{
+    if file.len() < 4 {
+        return Place::Nowhere;
+    }
+    if i >= (file[COUNT] as usize) {
+        return Place::Nowhere;
+    }
+    let row = 4 + 8 * i;
+    if file.len() < row + 8 {
+        return Place::Nowhere;
+    }
+    let head = &file[row..];
+    let kind = head[KIND];
+    if !watchfile::kind_right(kind) {
+        return Place::Nowhere;
+    }
+    let at = get16(head, OFFSET) as usize;
+    if file.len() < at + watchfile::size_of(kind) {
+        return Place::Nowhere;
+    }
+    let minute = get32(head, MINUTE);
+    Place::At(Row { kind, minute }, at)
+}
+
+// ---- a record by its figures: a body at the start of s, and its minute
+
+// A field without a sign, as a figure.
+fn figure(n: u16) -> Kept
+    ensures { λ r. ⌜ r ≡ kept (pos n) ⌝ }
+{
+    let wide = n as i32;
+    Kept { v: wide }
+}
+
+fn small_figure(n: u8) -> Kept
+    ensures { λ r. ⌜ r ≡ kept (pos n) ⌝ }
+{
+    let wide = n as i32;
+    Kept { v: wide }
+}
+
+fn pressure_at(s: &[u8], minute: u32) -> Figures
+    requires { ⌜ 2 ≤ length (now s) ⌝ }
+    ensures { λ r. ⌜ r ≡ bodyFigures minute (bodyOf 1 (now (s .entry))) ⌝ }
+{
+    let none = Kept { v: 0 };
+    Figures {
+        kind: 1,
+        minute,
+        first: figure(get16(s, PRESSURE)),
+        second: none,
+        third: none,
+        fourth: none,
+        fifth: none,
+    }
+}
+
+fn tendency_at(s: &[u8], minute: u32) -> Figures
+    requires { ⌜ 3 ≤ length (now s) ⌝ }
+    ensures { λ r. ⌜ r ≡ bodyFigures minute (bodyOf 2 (now (s .entry))) ⌝ }
+{
+    let none = Kept { v: 0 };
+    Figures {
+        kind: 2,
+        minute,
+        first: octets::signed(get16(s, CHANGE)),
+        second: small_figure(s[ABSENT]),
+        third: none,
+        fourth: none,
+        fifth: none,
+    }
+}
+
+fn wind_at(s: &[u8], minute: u32) -> Figures
+    requires { ⌜ 4 ≤ length (now s) ⌝ }
+    ensures { λ r. ⌜ r ≡ bodyFigures minute (bodyOf 3 (now (s .entry))) ⌝ }
+{
+    let none = Kept { v: 0 };
+    Figures {
+        kind: 3,
+        minute,
+        first: figure(get16(s, SPEED)),
+        second: figure(get16(s, DIRECTION)),
+        third: none,
+        fourth: none,
+        fifth: none,
+    }
+}
+
+fn humidity_at(s: &[u8], minute: u32) -> Figures
+    requires { ⌜ 9 ≤ length (now s) ⌝ }
+    ensures { λ r. ⌜ r ≡ bodyFigures minute (bodyOf 4 (now (s .entry))) ⌝ }
+{
+    Figures {
+        kind: 4,
+        minute,
+        first: figure(get16(s, E)),
+        second: figure(get16(s, SATURATION)),
+        third: figure(get16(s, DEFICIT)),
+        fourth: small_figure(s[RELATIVE]),
+        fifth: octets::signed(get16(s, DEW)),
+    }
+}
+
+// The same of a body of a kind.
+fn figures_at(s: &[u8], kind: u8, minute: u32) -> Figures
+    requires { ⌜ sizeOf kind ≤ length (now s) ⌝ }
+    ensures { λ r. ⌜ r ≡ bodyFigures minute (bodyOf kind (now (s .entry))) ⌝ }
+{
+    if kind == 1 {
+        return pressure_at(s, minute);
+    }
+    if kind == 2 {
+        return tendency_at(s, minute);
+    }
+    if kind == 3 {
+        return wind_at(s, minute);
+    }
+    humidity_at(s, minute)
+}
+
+// The record with an index, counted from 0: of a good file its i-th, of any bytes what stands there. All is 0 where nothing does.
+pub fn record(file: &[u8], i: usize) -> Figures
+    ensures { λ r. ⌜ r ≡ recordAt (now (file .entry)) i ⌝ }
+{
+    match find(file, i) {
+        Place::Nowhere => NOTHING,
+        Place::At(row, at) => figures_at(&file[at..], row.kind, row.minute),
     }
 }

@@ -1,4 +1,5 @@
 pub mod DewExists
 pub mod DewRules
 pub mod FieldLaws
+pub mod PassedLaws
 pub mod SingleAnswers

@@ -5,7 +5,7 @@ use mathlib.Core.Bool.{Bool, true, _&&_, not, cond}
 use mathlib.Core.List.{List, [], _∷_, _++_, map}
 use Prim.Native.Nat.{ℕ, zero, suc, _+_, _*_}
 use lib.Dec.{leb, ltb, eqb}
-use lib.IntN.{ℤ}
+use lib.IntN.{ℤ, pos}
 use lib.ListN.{length, getD, drop, take}
 use Rattle.number.specs.Refusal.{Test, Answer, answer, Numbered, numbered}
 use Rattle.number.specs.declared.Kept.{Kept}
@@ -17,6 +17,7 @@ use Rattle.watchfile.specs.Fields.{Field, field, fieldTests, placed}
 use Rattle.watchfile.specs.declared.Body.{Body}
 use Rattle.watchfile.specs.declared.Body.the-variants.{Pressure, Tendency, Wind, Humidity}
 use Rattle.watchfile.specs.declared.Record.{Record}
+use Rattle.watchfile.specs.declared.Figures.{Figures}
 
 -- dew gives the dew point of every e that a file may hold.
 abbrev pub DewRule : (ℕ → ℤ) → Type 0
@@ -64,6 +65,24 @@ bodyOf kind s =
     (cond (eqb kind 2) (Tendency (kept (signed16 (le16 s 0))) (getD s 2 0))
     (cond (eqb kind 3) (Wind (le16 s 0) (le16 s 2))
     (Humidity (le16 s 0) (le16 s 2) (le16 s 4) (getD s 6 0) (kept (signed16 (le16 s 7))))))
+
+-- A record of a kind by its figures: its minute and "body fields in order", 0 where the kind has fewer.
+abbrev pub figures : ℕ → ℕ → ℤ → ℤ → ℤ → ℤ → ℤ → Figures
+figures kind minute a b c d e =
+    record { kind = kind; minute = minute; first = kept a; second = kept b; third = kept c; fourth = kept d; fifth = kept e }
+
+abbrev pub bodyFigures : ℕ → Body → Figures
+bodyFigures m (Pressure p) = figures 1 m (pos p) (pos 0) (pos 0) (pos 0) (pos 0)
+bodyFigures m (Tendency change absent) = figures 2 m (change .v) (pos absent) (pos 0) (pos 0) (pos 0)
+bodyFigures m (Wind speed direction) = figures 3 m (pos speed) (pos direction) (pos 0) (pos 0) (pos 0)
+bodyFigures m (Humidity e saturation deficit relative dew) = figures 4 m (pos e) (pos saturation) (pos deficit) (pos relative) (dew .v)
+
+abbrev pub figuresOf : Record → Figures
+figuresOf r = bodyFigures (r .minute) (r .body)
+
+-- The figures of no record.
+abbrev pub nothing : Figures
+nothing = figures 0 0 (pos 0) (pos 0) (pos 0) (pos 0) (pos 0)
 
 -- ---- contents: "8 bytes a record: kind (1), zero (1), body offset (2), minute (4)"
 

@@ -44,6 +44,29 @@ pub struct Record {
     pub body: Body,
 }
 
+// A record by its figures: its kind, 1 to 4, its minute, and its body's fields in their order.
+#[repr(C)]
+pub struct Figures {
+    pub kind: u32,
+    pub minute: u32,
+    pub first: Kept,
+    pub second: Kept,
+    pub third: Kept,
+    pub fourth: Kept,
+    pub fifth: Kept,
+}
+
+// The figures of no record.
+pub const NOTHING: Figures = Figures {
+    kind: 0,
+    minute: 0,
+    first: Kept { v: 0 },
+    second: Kept { v: 0 },
+    third: Kept { v: 0 },
+    fourth: Kept { v: 0 },
+    fifth: Kept { v: 0 },
+};
+
 // The most records that a file can have.
 pub const RECORDS: usize = 48;
 

@@ -4,7 +4,6 @@ pub mod RestLaws
 pub mod TurnLaws
 pub mod WriteLaws
 pub mod RightLaws
-pub mod PassedLaws
 pub mod WrittenReadLaws
 pub mod ReadWrittenLaws
 pub mod RoundTrips

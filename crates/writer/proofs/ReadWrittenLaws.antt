@@ -23,7 +23,7 @@ use Rattle.watchfile.specs.declared.Record.{Record}
 use Rattle.watchfile.proofs.FieldLaws.{Passed, given-passed}
 use Rattle.octets.proofs.ByteLaws.{bytes16-back, bytes32-back, unsigned-is, bytes-drop}
 use Rattle.writer.proofs.RightLaws.{AllRight, by-kind}
-use Rattle.writer.proofs.PassedLaws.{split, unplace}
+use Rattle.watchfile.proofs.PassedLaws.{split, unplace}
 
 -- k bytes from j on, and what stands behind them
 abbrev these : List ℕ → ℕ → ℕ → List ℕ

@@ -23,7 +23,7 @@ use Rattle.watchfile.proofs.FieldLaws.{Passed, passed-given}
 use Rattle.writer.proofs.SizeLaws.{length-body, length-rows}
 use Rattle.octets.proofs.ByteLaws.{read16, read16-is, read32-is, signed-is}
 use Rattle.writer.proofs.RightLaws.{AllRight, kind-right, change-fits, dew-fits}
-use Rattle.writer.proofs.PassedLaws.{join, place}
+use Rattle.watchfile.proofs.PassedLaws.{join, place}
 
 two : (f : ℕ → ℕ → Bool) (a b : ℕ) → f (read16 a) (read16 b) ≡ f a b
 two f a b = rw (read16-is a, read16-is b)

@@ -136,15 +136,15 @@ fn write_head(buffer: &mut [u8], count: usize)
 }
 
 // Writes each record: its row of the contents, and its body straight into the buffer behind the contents.
-fn write_records(buffer: &mut [u8], records: [Record; RECORDS], count: usize)
-    requires { ⌜ (startOf count + length (bodiesBytes (take count records)) ≤ length (now buffer)) × (count ≤ 48) ⌝ }
-    ensures { λ _. ⌜ now (buffer .exit) ≡ sets (sets (now (buffer .entry)) 4 (rowsBytes (take count records) (startOf count))) (startOf count) (bodiesBytes (take count records)) ⌝ }
+fn write_records(buffer: &mut [u8], records: &[u32], count: usize)
+    requires { ⌜ (length (recordsIn (now records)) ≡ count) × (startOf count + length (bodiesBytes (recordsIn (now records))) ≤ length (now buffer)) × (count ≤ 48) ⌝ }
+    ensures { λ _. ⌜ now (buffer .exit) ≡ sets (sets (now (buffer .entry)) 4 (rowsBytes (recordsIn (now (records .entry))) (startOf count))) (startOf count) (bodiesBytes (recordsIn (now (records .entry)))) ⌝ }
 {
     let mut i: usize = 0;
     let mut row: usize = 4;
     let mut at: usize = 4 + 8 * count;
     while i < count {
-        let r = records[i];
+        let r = handed::record(records, i);
         let body = r.body;
         let kind = body.kind();
         write_row(&mut buffer[row..], kind, at as u16, r.minute);
@@ -155,9 +155,10 @@ fn write_records(buffer: &mut [u8], records: [Record; RECORDS], count: usize)
     }
 }
 
-// The bytes that the file of the first `count` records needs, or the first record that may not be written.
-fn check(records: [Record; RECORDS], count: usize) -> Checked
-    ensures { λ r. ⌜ Checks records count r ⌝ }
+// The bytes that the file of these records needs, or the first record that may not be written.
+fn check(records: &[u32], count: usize) -> Checked
+    requires { ⌜ length (recordsIn (now records)) ≡ count ⌝ }
+    ensures { λ r. ⌜ Checks (recordsIn (now (records .entry))) r ⌝ }
 {
     let mut i: usize = 0;
     let mut before: u64 = 0;
@@ -166,7 +167,7 @@ fn check(records: [Record; RECORDS], count: usize) -> Checked
         if RECORDS <= i {
             return Checked::BreaksRules(RECORDS);
         }
-        let r = records[i];
+        let r = handed::record(records, i);
         if !watchfile::record_right(before, r) {
             return Checked::BreaksRules(i);
         }
@@ -179,10 +180,11 @@ fn check(records: [Record; RECORDS], count: usize) -> Checked
     Checked::Needs(size)
 }
 
-// Writes the first `count` records as a watch file into the lent buffer, or gives refusal 16 or 17 and leaves every byte.
-pub fn write(buffer: &mut [u8], records: [Record; RECORDS], count: usize) -> Written
-    ensures { λ r. ⌜ ((rule : ℕ → ℤ) → DewRule rule → Wrote rule records count (now (buffer .entry)) (now (buffer .exit)) r) ⌝ }
+// Writes records, lent as words, as a watch file into the lent buffer, or gives refusal 16 or 17 and leaves every byte.
+pub fn write(buffer: &mut [u8], records: &[u32]) -> Written
+    ensures { λ r. ⌜ ((rule : ℕ → ℤ) → DewRule rule → Wrote rule (recordsIn (now (records .entry))) (now (buffer .entry)) (now (buffer .exit)) r) ⌝ }
 {
+    let count = handed::count(records);
     match check(records, count) {
         Checked::BreaksRules(i) => Written::BreaksRules(i),
         Checked::Needs(size) => {

@@ -12,10 +12,10 @@ ghost use Rattle.filed.specs.Files.{fileIn};
 ghost use Rattle.handed.specs.Handed.{recordOf};
 ghost use Rattle.zhitomrak.specs.Calls.{OpenedAs, HeardAs, AnsweredAs, WroteAs, ListedAs};
 use block::Store;
-use filed::FileRecords;
 use filed::FileTold;
 use filed::ListTold;
 use filed::WriteTold;
+use handed::FileRecord;
 use told::HearTold;
 use told::HumidityTold;
 use told::PressureTold;
@@ -84,27 +84,30 @@ pub extern "C" fn zhitomrak_humidity(store: &Store, minute: u32) -> HumidityTold
 
 // ---- watch files
 
-// Reads a watch file: its records, or 18 with the place where it is broken.
+// Reads a watch file: how many records it has, or 18 with the place where it is broken.
 #[no_mangle]
 pub extern "C" fn zhitomrak_read(file: &[u8]) -> FileTold
-    ensures { λ r. ⌜ ((rule : ℕ → ℤ) → DewRule rule → r ≡ fileIn (reading rule (now (file .entry)))) ⌝ }
+    ensures { λ r. ⌜ ((rule : ℕ → ℤ) → DewRule rule → r ≡ fileIn (counted (reading rule (now (file .entry))))) ⌝ }
 {
     filed::file_told(reader::read(file))
 }
 
-// Writes the first `count` records as a watch file into the lent buffer; or 16 with the index of the first that breaks the rules
-// (or of the 49th), or 17 with the bytes needed, and every byte stays. A kind that is none, and a field that does not fit its
-// bytes, break the rules.
+// The record of a good file with this index, counted from 0; of any bytes what stands there. Where there is none it is all zeros.
 #[no_mangle]
-pub extern "C" fn zhitomrak_write(
-    buffer: &mut [u8],
-    records: FileRecords,
-    count: usize,
-) -> WriteTold
-    ensures { λ r. ⌜ ((rule : ℕ → ℤ) → DewRule rule → WroteAs rule (map recordOf (records .all)) count (now (buffer .entry)) (now (buffer .exit)) r) ⌝ }
+pub extern "C" fn zhitomrak_record(file: &[u8], index: usize) -> FileRecord
+    ensures { λ r. ⌜ r ≡ foundIn (recordAt (now (file .entry)) index) ⌝ }
 {
-    let all = records.all;
-    filed::write_told(writer::write(buffer, handed::records_of(all, count), count))
+    filed::found_told(reader::record(file, index))
+}
+
+// Writes records, lent as words, as a watch file into the lent buffer; or 16 with the index of the first that breaks the rules (or of
+// the 49th), or 17 with the bytes needed, and every byte stays. A kind that is none, and a field that does not fit its bytes, break the
+// rules.
+#[no_mangle]
+pub extern "C" fn zhitomrak_write(buffer: &mut [u8], records: &[u32]) -> WriteTold
+    ensures { λ r. ⌜ ((rule : ℕ → ℤ) → DewRule rule → WroteAs rule (recordsIn (now (records .entry))) (now (buffer .entry)) (now (buffer .exit)) r) ⌝ }
+{
+    filed::write_told(writer::write(buffer, records))
 }
 
 // Puts the listing of a watch file at the start of the lent bytes, and says how long it is; or 17 with the bytes needed, and every

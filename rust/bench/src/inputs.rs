@@ -194,7 +194,7 @@ pub fn records(count: usize) -> Records {
                 (proved::Body::Humidity(mine), independent::Body::Humidity(h))
             }
         };
-        both.0.push(proved::Record { minute, body: mine });
+        both.0.push(proved::Record::new(minute, mine));
         both.1.push(independent::Record {
             minute,
             body: theirs,

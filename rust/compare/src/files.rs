@@ -37,7 +37,7 @@ fn to_proved(&(minute, (kind, f)): &Record) -> proved::Record {
             dew: f[4],
         }),
     };
-    proved::Record { minute, body }
+    proved::Record::new(minute, body)
 }
 
 fn to_independent(&(minute, (kind, f)): &Record) -> independent::Record {
@@ -62,14 +62,14 @@ fn to_independent(&(minute, (kind, f)): &Record) -> independent::Record {
     independent::Record { minute, body }
 }
 
-fn from_proved(r: &proved::Record) -> Record {
-    let body = match r.body {
+fn from_proved(r: proved::Record) -> Record {
+    let body = match r.body() {
         proved::Body::Pressure(p) => (1, [p, 0, 0, 0, 0]),
         proved::Body::Tendency(t) => (2, [t.change, t.absent, 0, 0, 0]),
         proved::Body::Wind(w) => (3, [w.speed, w.direction, 0, 0, 0]),
         proved::Body::Humidity(h) => (4, [h.e, h.saturation, h.deficit, h.relative, h.dew]),
     };
-    (r.minute, body)
+    (r.minute(), body)
 }
 
 fn from_independent(r: &independent::Record) -> Record {

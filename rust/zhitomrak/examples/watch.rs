@@ -101,22 +101,10 @@ fn main() -> Result<(), Refused> {
     say_humidity("humidity by an iced bulb", store.humidity(241)?);
 
     let records = [
-        Record {
-            minute: 230,
-            body: Body::Tendency(tendency),
-        },
-        Record {
-            minute: 240,
-            body: Body::Pressure(pressure),
-        },
-        Record {
-            minute: 240,
-            body: Body::Wind(wind),
-        },
-        Record {
-            minute: 240,
-            body: Body::Humidity(humidity),
-        },
+        Record::new(230, Body::Tendency(tendency)),
+        Record::new(240, Body::Pressure(pressure)),
+        Record::new(240, Body::Wind(wind)),
+        Record::new(240, Body::Humidity(humidity)),
     ];
     let mut file = [0; LONGEST_FILE];
     if let Err(Refused::TooShort { bytes }) = watchfile::write(&records, &mut file[..10]) {
@@ -129,7 +117,7 @@ fn main() -> Result<(), Refused> {
     println!(
         "read: {} records, the last of minute {}",
         read.len(),
-        read[read.len() - 1].minute
+        read.iter().last().map_or(0, |record| record.minute())
     );
     let mut room = [0; LISTING_ROOM];
     let mut out = std::io::stdout();

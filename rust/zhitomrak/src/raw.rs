@@ -9,6 +9,8 @@ pub const NO_STORE: u32 = 255;
 pub const POINTS: usize = 16;
 /// The most records of a watch file.
 pub const RECORDS: usize = 48;
+/// The words of a record.
+pub const RECORD_WORDS: usize = 7;
 
 #[derive(Clone, Copy, Default)]
 #[repr(C)]
@@ -71,22 +73,13 @@ pub struct Humidity {
     pub dew: i32,
 }
 
-#[derive(Clone, Copy, Default)]
+/// A record: its kind, its minute and its body's figures, 0 where the kind has fewer.
+#[derive(Clone, Copy, Debug, PartialEq, Eq)]
 #[repr(C)]
 pub struct Record {
-    pub kind: u32,
-    pub minute: u32,
-    pub first: i32,
-    pub second: i32,
-    pub third: i32,
-    pub fourth: i32,
-    pub fifth: i32,
-}
-
-#[derive(Clone, Copy)]
-#[repr(C)]
-pub struct Records {
-    pub all: [Record; RECORDS],
+    pub(crate) kind: u32,
+    pub(crate) minute: u32,
+    pub(crate) figures: [i32; 5],
 }
 
 #[repr(C)]
@@ -94,7 +87,6 @@ pub struct File {
     pub number: u32,
     pub place: usize,
     pub count: usize,
-    pub records: Records,
 }
 
 #[repr(C)]
@@ -118,7 +110,9 @@ extern "C" {
     fn zhitomrak_wind(store: *const [u64; WORDS], minute: u32) -> Wind;
     fn zhitomrak_humidity(store: *const [u64; WORDS], minute: u32) -> Humidity;
     fn zhitomrak_read(file: *const u8, length: usize) -> File;
-    fn zhitomrak_write(buffer: *mut u8, length: usize, records: Records, count: usize) -> Written;
+    fn zhitomrak_record(file: *const u8, length: usize, index: usize) -> Record;
+    fn zhitomrak_write(buffer: *mut u8, length: usize, records: *const u32, words: usize)
+        -> Written;
     fn zhitomrak_list(file: *const u8, length: usize, text: *mut u8, room: usize) -> Listed;
 }
 
@@ -161,8 +155,23 @@ pub fn read(file: &[u8]) -> File {
 }
 
 #[inline]
-pub fn write(buffer: &mut [u8], records: Records, count: usize) -> Written {
-    unsafe { zhitomrak_write(buffer.as_mut_ptr(), buffer.len(), records, count) }
+pub fn record(file: &[u8], index: usize) -> Record {
+    unsafe { zhitomrak_record(file.as_ptr(), file.len(), index) }
+}
+
+// A record is seven words of 32 bits, so as many words stand behind the pointer as are told.
+const _: () = assert!(std::mem::size_of::<Record>() == 4 * RECORD_WORDS);
+
+#[inline]
+pub fn write(buffer: &mut [u8], records: &[Record]) -> Written {
+    unsafe {
+        zhitomrak_write(
+            buffer.as_mut_ptr(),
+            buffer.len(),
+            records.as_ptr().cast(),
+            RECORD_WORDS * records.len(),
+        )
+    }
 }
 
 #[inline]

@@ -1,7 +1,5 @@
 //! Watch files: read, written and listed.
 
-use std::ops::Deref;
-
 use crate::raw;
 use crate::refusal::Refused;
 use crate::store::{Humidity, Tendency, Wind};
@@ -26,104 +24,108 @@ pub enum Body {
     Humidity(Humidity),
 }
 
-/// A record of a watch.
-#[derive(Clone, Copy, Debug, PartialEq, Eq)]
-pub struct Record {
-    /// The minute of the answer.
-    pub minute: u32,
-    /// The answer.
-    pub body: Body,
-}
+pub use crate::raw::Record;
 
 impl Record {
-    const BLANK: Record = Record {
-        minute: 0,
-        body: Body::Pressure(0),
-    };
-
+    /// The record of an answer and its minute.
     #[inline]
-    fn from_raw(r: &raw::Record) -> Record {
-        let body = match r.kind {
-            1 => Body::Pressure(r.first),
-            2 => Body::Tendency(Tendency {
-                change: r.first,
-                absent: r.second,
-            }),
-            3 => Body::Wind(Wind {
-                speed: r.first,
-                direction: r.second,
-            }),
-            _ => Body::Humidity(Humidity {
-                e: r.first,
-                saturation: r.second,
-                deficit: r.third,
-                relative: r.fourth,
-                dew: r.fifth,
-            }),
-        };
-        Record {
-            minute: r.minute,
-            body,
-        }
-    }
-
-    #[inline]
-    fn to_raw(self) -> raw::Record {
-        let (kind, [first, second, third, fourth, fifth]) = match self.body {
+    pub const fn new(minute: u32, body: Body) -> Record {
+        let (kind, figures) = match body {
             Body::Pressure(p) => (1, [p, 0, 0, 0, 0]),
             Body::Tendency(t) => (2, [t.change, t.absent, 0, 0, 0]),
             Body::Wind(w) => (3, [w.speed, w.direction, 0, 0, 0]),
             Body::Humidity(h) => (4, [h.e, h.saturation, h.deficit, h.relative, h.dew]),
         };
-        raw::Record {
+        Record {
             kind,
-            minute: self.minute,
-            first,
-            second,
-            third,
-            fourth,
-            fifth,
+            minute,
+            figures,
+        }
+    }
+
+    /// The minute of the answer.
+    #[inline]
+    pub const fn minute(&self) -> u32 {
+        self.minute
+    }
+
+    /// The answer.
+    #[inline]
+    pub const fn body(&self) -> Body {
+        let [first, second, third, fourth, fifth] = self.figures;
+        match self.kind {
+            1 => Body::Pressure(first),
+            2 => Body::Tendency(Tendency {
+                change: first,
+                absent: second,
+            }),
+            3 => Body::Wind(Wind {
+                speed: first,
+                direction: second,
+            }),
+            _ => Body::Humidity(Humidity {
+                e: first,
+                saturation: second,
+                deficit: third,
+                relative: fourth,
+                dew: fifth,
+            }),
         }
     }
 }
 
-/// The records of a file that was read: a slice of at most 48.
-#[derive(Clone)]
-pub struct Records {
-    all: [Record; MOST_RECORDS],
+/// The records of a good file, each read where it stands when it is asked for.
+#[derive(Clone, Copy, Debug)]
+pub struct Records<'file> {
+    file: &'file [u8],
     count: usize,
 }
 
-impl Deref for Records {
-    type Target = [Record];
+impl<'file> Records<'file> {
+    /// How many there are, 48 at the most.
+    #[inline]
+    pub const fn len(&self) -> usize {
+        self.count
+    }
 
-    fn deref(&self) -> &[Record] {
-        &self.all[..self.count]
+    /// Whether there are none.
+    #[inline]
+    pub const fn is_empty(&self) -> bool {
+        self.count == 0
+    }
+
+    /// The record with this index, counted from 0.
+    #[inline]
+    pub fn get(&self, index: usize) -> Option<Record> {
+        let record = raw::record(self.file, index);
+        (record.kind != 0).then_some(record)
+    }
+
+    /// All of them in their order.
+    #[inline]
+    pub fn iter(self) -> impl Iterator<Item = Record> + 'file {
+        (0..self.count).filter_map(move |index| self.get(index))
     }
 }
 
 /// The records of a watch file; or [`Refused::Broken`] with the place.
-pub fn read(file: &[u8]) -> Result<Records, Refused> {
+#[inline]
+pub fn read(file: &[u8]) -> Result<Records<'_>, Refused> {
     let told = raw::read(file);
     if told.number != 0 {
         return Err(Refused::Broken { place: told.place });
     }
-    let count = told.count.min(MOST_RECORDS);
-    let mut all = [Record::BLANK; MOST_RECORDS];
-    for (to, record) in all.iter_mut().zip(&told.records.all[..count]) {
-        *to = Record::from_raw(record);
-    }
-    Ok(Records { all, count })
+    Ok(Records {
+        file,
+        count: told.count,
+    })
 }
 
 /// Writes the records as a watch file at the start of the buffer, leaves the bytes behind it, and gives the file's length. Or
 /// [`Refused::BreaksRules`], else [`Refused::TooShort`], and every byte stays.
+#[inline]
 pub fn write(records: &[Record], buffer: &mut [u8]) -> Result<usize, Refused> {
-    let mut all = [raw::Record::default(); MOST_RECORDS];
-    for (to, record) in all.iter_mut().zip(records) {
-        *to = record.to_raw();
-    }
-    let told = raw::write(buffer, raw::Records { all }, records.len());
+    let told = raw::write(buffer, records);
     match told.number {
         0 => Ok(told.bytes),
         16 => Err(Refused::BreaksRules { index: told.index }),

@@ -1,5 +1,5 @@
 -- `read` meets its contract: the head field by field, the contents, then the bodies. Assumes nothing.
-use mathlib.Core.Path.{_≡_, refl, sym, _∙_}
+use mathlib.Core.Path.{_≡_, refl, sym, ap, _∙_}
 use mathlib.Core.List.{List}
 use Prim.Native.Nat.{ℕ}
 use native.Mathlib.Omega.{arith}
@@ -10,8 +10,9 @@ use Rattle.number.specs.Refusal.{Answer, given}
 use Rattle.watchfile.specs.Format.{fields, records, bodiesFields, countOf, startOf, reading}
 use Rattle.watchfile.specs.declared.Record.{Record}
 use Rattle.watchfile.proofs.FieldLaws.{cut, wrong, right, joined-refused, joined-given}
+use Rattle.reader.specs.Read.{counted}
 use Rattle.reader.specs.Work.{found}
-use Rattle.reader.proofs.ReadLaws.{hands, rows, contents-good, contents-broken, contents-whole}
+use Rattle.reader.proofs.ReadLaws.{rows, contents-good, contents-broken, contents-whole}
 use borrow.Author.Needs.{needs}
 use Rattle.reader.proofs.read.Statement.{statement}
 use Rattle.reader.proofs.read.Tie as tie
@@ -43,13 +44,10 @@ good c =
     let s = c .before .before .before .before .before .before .before .before .before .before .before .before .before .before .before .args .file .now in
     contents-good s (countOf s) (c .before .before .contents .result) (c .before .before .contents .ensures) (c .enum-told .given .0 .0) (c .enum-told .given .1)
 
-broken-requires : tie.Need-broken-requires
-broken-requires c κs = search needs
-
 returns : tie.Need-returns
 returns c =
     λ rule ruled.
-    hands (c .broken .result) (whole (c .before .before .before) rule ∙ cut _ _ _ _ (c .before .if1 .taken)) (c .broken .ensures)
+    ap counted (sym (whole (c .before .before) rule ∙ cut _ _ _ _ (c .if1 .taken)))
 
 shared-slice-read-label-right : tie.Need-shared-slice-read-label-right
 shared-slice-read-label-right c = search needs
@@ -60,47 +58,29 @@ shared-slice-read-label-right-2 c = search needs
 label-right-requires : tie.Need-label-right-requires
 label-right-requires c κs = search needs
 
-broken-requires-2 : tie.Need-broken-requires-2
-broken-requires-2 c κs = search needs
-
 returns-2 : tie.Need-returns-2
 returns-2 c =
     λ rule ruled.
-    let at = c .before in
-    let label = sym (at .before .label-right .ensures) ∙ not-true _ (at .if2 .taken) in
-    hands (c .broken2 .result)
-    (whole (at .before .before .before .before .before .before) rule ∙ wrong _ _ _ _ (at .before .before .before .before .if1 .left) label)
-    (c .broken2 .ensures)
-
-broken-requires-3 : tie.Need-broken-requires-3
-broken-requires-3 c κs = search needs
+    let label = sym (c .before .label-right .ensures) ∙ not-true _ (c .if2 .taken) in
+    ap counted (sym (whole (c .before .before .before .before .before .before) rule ∙ wrong _ _ _ _ (c .before .before .before .before .if1 .left) label))
 
 returns-3 : tie.Need-returns-3
 returns-3 c =
     λ rule ruled.
-    hands (c .broken3 .result) (past-label (c .before .before) rule ∙ cut _ _ _ _ (c .before .if3 .taken)) (c .broken3 .ensures)
+    ap counted (sym (past-label (c .before) rule ∙ cut _ _ _ _ (c .if3 .taken)))
 
 shared-slice-read-if4 : tie.Need-shared-slice-read-if4
 shared-slice-read-if4 c = search needs
 
-broken-requires-4 : tie.Need-broken-requires-4
-broken-requires-4 c κs = search needs
-
 returns-4 : tie.Need-returns-4
 returns-4 c =
     λ rule ruled.
-    let at = c .before in
-    hands (c .broken4 .result)
-    (past-label (at .before .before .before) rule ∙ wrong _ _ _ _ (at .before .before .if3 .left) (ne-eqb _ _ (at .if4 .taken)))
-    (c .broken4 .ensures)
-
-broken-requires-5 : tie.Need-broken-requires-5
-broken-requires-5 c κs = search needs
+    ap counted (sym (past-label (c .before .before .before) rule ∙ wrong _ _ _ _ (c .before .before .if3 .left) (ne-eqb _ _ (c .if4 .taken))))
 
 returns-5 : tie.Need-returns-5
 returns-5 c =
     λ rule ruled.
-    hands (c .broken5 .result) (past-version (c .before .before) rule ∙ cut _ _ _ _ (c .before .if5 .taken)) (c .broken5 .ensures)
+    ap counted (sym (past-version (c .before) rule ∙ cut _ _ _ _ (c .if5 .taken)))
 
 shared-slice-read-count : tie.Need-shared-slice-read-count
 shared-slice-read-count c = search needs
@@ -108,16 +88,10 @@ shared-slice-read-count c = search needs
 cast-count : tie.Need-cast-count
 cast-count c = omega (arith, c .shared-slice-known5 .given 3)
 
-broken-requires-6 : tie.Need-broken-requires-6
-broken-requires-6 c κs = search needs
-
 returns-6 : tie.Need-returns-6
 returns-6 c =
     λ rule ruled.
-    let at = c .before in
-    hands (c .broken6 .result)
-    (past-version (at .before .before .before) rule ∙ wrong _ _ _ _ (at .before .before .if5 .left) (lt-leb _ _ (at .if6 .taken)))
-    (c .broken6 .ensures)
+    ap counted (sym (past-version (c .before .before .before) rule ∙ wrong _ _ _ _ (c .before .before .if5 .left) (lt-leb _ _ (c .if6 .taken))))
 
 contents-requires : tie.Need-contents-requires
 contents-requires c κs = search needs
@@ -134,57 +108,44 @@ bodies-requires c κs =
 enum-known-place : tie.Need-enum-known-place
 enum-known-place c = search needs
 
-broken-requires-7 : tie.Need-broken-requires-7
-broken-requires-7 c κs = search needs
-
 returns-7 : tie.Need-returns-7
 returns-7 c =
     λ rule ruled.
     let at = c .before .before .before .before in
     let s = at .before .before .before .before .before .before .before .before .before .before .before .before .args .file .now in
     let n = countOf s in
-    hands (c .bodies .result)
-    (past-count at rule ∙ joined-given (length s) (rows s n) (bodiesFields rule s n 4 (startOf n)) n (records s) n (good (c .before)))
-    (c .bodies .ensures rule ruled)
+    c .bodies .ensures rule ruled
+    ∙ ap counted (sym (past-count at rule ∙ joined-given (length s) (rows s n) (bodiesFields rule s n 4 (startOf n)) n (records s) n (good (c .before))))
 
 returns-8 : tie.Need-returns-8
 returns-8 c =
     λ rule ruled.
-    let at = c .before .before .before .before .before in
+    let at = c .before .before .before .before in
     let s = at .before .before .before .before .before .before .before .before .before .before .before .before .args .file .now in
     let n = countOf s in
-    let place = c .before .before .place .given in
-    let wrong = contents-broken s n (c .before .before .before .before .contents .result) (c .before .before .before .before .contents .ensures) (place .0 .0) (place .1) in
-    hands (c .broken7 .result)
-    (past-count at rule ∙ joined-refused (length s) (rows s n) (bodiesFields rule s n 4 (startOf n)) n (records s) (place .0 .0) wrong)
-    (c .broken7 .ensures)
+    let place = c .before .place .given in
+    let wrong = contents-broken s n (c .before .before .before .contents .result) (c .before .before .before .contents .ensures) (place .0 .0) (place .1) in
+    ap counted (sym (past-count at rule ∙ joined-refused (length s) (rows s n) (bodiesFields rule s n 4 (startOf n)) n (records s) (place .0 .0) wrong))
 
 pub read-spec : {M : Type 1} → statement M
 read-spec =
     tie.close
     (tie.spec
-    broken-requires
     returns
     shared-slice-read-label-right
     shared-slice-read-label-right-2
     label-right-requires
-    broken-requires-2
     returns-2
-    broken-requires-3
     returns-3
     shared-slice-read-if4
-    broken-requires-4
     returns-4
-    broken-requires-5
     returns-5
     shared-slice-read-count
     cast-count
-    broken-requires-6
     returns-6
     contents-requires
     enum-told
     bodies-requires
     enum-known-place
-    broken-requires-7
     returns-7
     returns-8)

@@ -31,12 +31,7 @@ fn main() {
     };
     let heard = input.chunks(16).filter(|m| store.hear(m).is_ok()).count() as u32;
     let mut records = Vec::new();
-    let mut keep = |body| {
-        records.push(Record {
-            minute: heard,
-            body,
-        })
-    };
+    let mut keep = |body| records.push(Record::new(heard, body));
     if let Ok(p) = store.pressure(heard) {
         keep(Body::Pressure(p));
     }

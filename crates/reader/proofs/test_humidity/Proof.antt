@@ -1,4 +1,4 @@
--- `read_humidity` meets its contract: e, once saturation is whole, then saturation, then the rest. Assumes nothing.
+-- `test_humidity` meets its contract: e, once saturation is whole, then saturation, then the rest. Assumes nothing.
 use mathlib.Core.Path.{_≡_, sym, ap, _∙_}
 use lib.IntN.{ℤ}
 use lib.ListN.{drop}
@@ -7,16 +7,15 @@ use borrow.Author.Tests.{not-true, not-false}
 use Rattle.number.specs.Refusal.{Answer}
 use Rattle.octets.specs.Bytes.{le16}
 use Rattle.watchfile.specs.Rules.{eRight, saturationRight}
-use Rattle.watchfile.specs.Format.{humidityFields, bodyOf}
-use Rattle.watchfile.specs.declared.Body.{Body}
+use Rattle.watchfile.specs.Format.{humidityFields}
 use Rattle.watchfile.proofs.FieldLaws.{cut, wrong, right}
 use Rattle.reader.specs.Work.{found}
 use borrow.Author.Needs.{needs}
-use Rattle.reader.proofs.read_humidity.Statement.{statement}
-use Rattle.reader.proofs.read_humidity.Tie as tie
+use Rattle.reader.proofs.test_humidity.Statement.{statement}
+use Rattle.reader.proofs.test_humidity.Tie as tie
 
-abbrev from : tie.Start → (ℕ → ℤ) → ℕ → Answer ℕ Body
-from q rule k = let s = q .args .s .now in found s (drop k (humidityFields rule s)) (bodyOf 4 s)
+abbrev from : tie.Start → (ℕ → ℤ) → ℕ → Answer ℕ (Unit {0})
+from q rule k = let s = q .args .s .now in found s (drop k (humidityFields rule s)) tt
 
 -- the rule of e, as the bytes have it
 e-rule : (c : tie.After-e-right) → let s = c .before .before .before .before .before .args .s .now in c .e-right .result ≡ eRight (le16 s 2) (le16 s 0)
@@ -59,8 +58,8 @@ returns-3 c =
     let at = c .before in
     sym (past-e at rule ∙ wrong _ _ _ _ (at .before .before .before .before .before .if1 .left) (sym (saturation-rule (at .before)) ∙ not-true _ (c .if3 .taken)))
 
-read-derived-requires : tie.Need-read-derived-requires
-read-derived-requires c κs =
+test-derived-requires : tie.Need-test-derived-requires
+test-derived-requires c κs =
     let at = c .before .before .before .before in
     (at .before .before .if1 .left, at .before .get16 .ensures, at .get162 .ensures)
 
@@ -68,11 +67,11 @@ returns-4 : tie.Need-returns-4
 returns-4 c =
     λ rule ruled.
     let at = c .before .before in
-    c .read-derived .ensures rule ruled
+    c .test-derived .ensures rule ruled
     ∙ sym (past-e at rule ∙ right _ _ _ _ (at .before .before .before .before .before .if1 .left) (sym (saturation-rule (at .before)) ∙ not-false _ (c .before .if3 .left)))
 
-pub read-humidity-spec : {M : Type 1} → statement M
-read-humidity-spec =
+pub test-humidity-spec : {M : Type 1} → statement M
+test-humidity-spec =
     tie.close
     (tie.spec
     returns
@@ -82,5 +81,5 @@ read-humidity-spec =
     saturation-right-requires
     returns-2
     returns-3
-    read-derived-requires
+    test-derived-requires
     returns-4)

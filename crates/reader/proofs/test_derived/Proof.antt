@@ -1,4 +1,4 @@
--- `read_derived` meets its contract: the deficit, the relative humidity, then the dew point. Assumes nothing.
+-- `test_derived` meets its contract: the deficit, the relative humidity, then the dew point. Assumes nothing.
 use mathlib.Core.Path.{_≡_, sym, ap, _∙_}
 use lib.IntN.{ℤ}
 use lib.ListN.{drop, getD}
@@ -7,16 +7,15 @@ use borrow.Author.Tests.{not-true, not-false}
 use Rattle.number.specs.Refusal.{Answer}
 use Rattle.octets.specs.Bytes.{le16, signed16}
 use Rattle.watchfile.specs.Rules.{deficitRight, relativeRight, dewRight}
-use Rattle.watchfile.specs.Format.{DewRule, humidityFields, bodyOf}
-use Rattle.watchfile.specs.declared.Body.{Body}
+use Rattle.watchfile.specs.Format.{DewRule, humidityFields}
 use Rattle.watchfile.proofs.FieldLaws.{cut, wrong, right, none}
 use Rattle.reader.specs.Work.{found}
 use borrow.Author.Needs.{needs}
-use Rattle.reader.proofs.read_derived.Statement.{statement}
-use Rattle.reader.proofs.read_derived.Tie as tie
+use Rattle.reader.proofs.test_derived.Statement.{statement}
+use Rattle.reader.proofs.test_derived.Tie as tie
 
-abbrev from : tie.Start → (ℕ → ℤ) → ℕ → Answer ℕ Body
-from q rule k = let s = q .args .s .now in found s (drop k (humidityFields rule s)) (bodyOf 4 s)
+abbrev from : tie.Start → (ℕ → ℤ) → ℕ → Answer ℕ (Unit {0})
+from q rule k = let s = q .args .s .now in found s (drop k (humidityFields rule s)) tt
 
 -- the three rules, as the bytes have them
 deficit-rule : (c : tie.After-deficit-right) → let s = c .before .before .before .before .args .s .now in c .deficit-right .result ≡ deficitRight (le16 s 0) (le16 s 2) (le16 s 4)
@@ -91,12 +90,9 @@ returns-6 : tie.Need-returns-6
 returns-6 c =
     λ rule ruled.
     let at = c .before .before .before .before .before in
-    let q = at .before .before .before .before .before .before .before .before .before in
-    let deficit = at .before .before .before .before .before .before .get16 .ensures in
-    rw (q .pre .1, q .pre .2, deficit, dew (c .before .before))
-    (sym (past-relative at rule
+    sym (past-relative at rule
     ∙ right _ _ _ _ (c .before .before .before .before .if5 .left) (sym (dew-rule (c .before) rule ruled) ∙ c .if6 .taken)
-    ∙ none _ _))
+    ∙ none _ _)
 
 returns-7 : tie.Need-returns-7
 returns-7 c =
@@ -104,8 +100,8 @@ returns-7 c =
     sym (past-relative (c .before .before .before .before .before) rule
     ∙ wrong _ _ _ _ (c .before .before .before .before .if5 .left) (sym (dew-rule (c .before) rule ruled) ∙ c .if6 .left))
 
-pub read-derived-spec : {M : Type 1} → statement M
-read-derived-spec =
+pub test-derived-spec : {M : Type 1} → statement M
+test-derived-spec =
     tie.close
     (tie.spec
     returns

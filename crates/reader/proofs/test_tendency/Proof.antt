@@ -1,23 +1,20 @@
--- `read_tendency` meets its contract: the change, then the absent minutes. Assumes nothing.
+-- `test_tendency` meets its contract: the change, then the absent minutes. Assumes nothing.
 use mathlib.Core.Path.{_≡_, sym, ap, _∙_}
-use lib.IntN.{ℤ}
-use lib.ListN.{drop, getD}
+use lib.ListN.{drop}
 use Prim.Native.Nat.{ℕ}
 use borrow.Author.Tests.{not-true, not-false}
-use Rattle.number.specs.Refusal.{Answer, given}
+use Rattle.number.specs.Refusal.{Answer}
 use Rattle.octets.specs.Bytes.{le16, signed16}
 use Rattle.watchfile.specs.Rules.{changeRight}
-use Rattle.watchfile.specs.Format.{tendencyFields, bodyOf, kept}
-use Rattle.watchfile.specs.declared.Body.{Body}
-use Rattle.watchfile.specs.declared.Body.the-variants.{Tendency}
+use Rattle.watchfile.specs.Format.{tendencyFields}
 use Rattle.watchfile.proofs.FieldLaws.{cut, wrong, right, none}
 use Rattle.reader.specs.Work.{found}
 use borrow.Author.Needs.{needs}
-use Rattle.reader.proofs.read_tendency.Statement.{statement}
-use Rattle.reader.proofs.read_tendency.Tie as tie
+use Rattle.reader.proofs.test_tendency.Statement.{statement}
+use Rattle.reader.proofs.test_tendency.Tie as tie
 
-abbrev from : tie.Start → ℕ → Answer ℕ Body
-from q k = let s = q .args .s .now in found s (drop k (tendencyFields s)) (bodyOf 2 s)
+abbrev from : tie.Start → ℕ → Answer ℕ (Unit {0})
+from q k = let s = q .args .s .now in found s (drop k (tendencyFields s)) tt
 
 -- the change is what its two bytes hold
 change : (c : tie.After-signed) → c .signed .result .v ≡ signed16 (le16 (c .before .before .before .before .args .s .now) 0)
@@ -56,9 +53,7 @@ absent-right-requires c κs = search needs
 
 returns-4 : tie.Need-returns-4
 returns-4 c =
-    let absent = getD (c .before .before .before .before .before .before .before .before .before .before .args .s .now) 2 0 in
-    ap (λ (z : ℤ). given (Tendency (kept z) absent)) (change (c .before .before .before .before .before .before))
-    ∙ sym (past-change (c .before .before .before .before)
+    sym (past-change (c .before .before .before .before)
     ∙ right _ _ _ _ (c .before .before .before .if3 .left) (sym (c .before .absent-right .ensures) ∙ c .if4 .taken)
     ∙ none _ _)
 
@@ -67,8 +62,8 @@ returns-5 c =
     sym (past-change (c .before .before .before .before)
     ∙ wrong _ _ _ _ (c .before .before .before .if3 .left) (sym (c .before .absent-right .ensures) ∙ c .if4 .left))
 
-pub read-tendency-spec : {M : Type 1} → statement M
-read-tendency-spec =
+pub test-tendency-spec : {M : Type 1} → statement M
+test-tendency-spec =
     tie.close
     (tie.spec
     returns

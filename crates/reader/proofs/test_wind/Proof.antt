@@ -1,22 +1,20 @@
--- `read_wind` meets its contract: the speed, then the direction. Assumes nothing.
+-- `test_wind` meets its contract: the speed, then the direction. Assumes nothing.
 use mathlib.Core.Path.{_≡_, sym, ap, _∙_}
 use lib.ListN.{drop}
 use Prim.Native.Nat.{ℕ}
 use borrow.Author.Tests.{not-true, not-false}
-use Rattle.number.specs.Refusal.{Answer, given}
+use Rattle.number.specs.Refusal.{Answer}
 use Rattle.octets.specs.Bytes.{le16}
 use Rattle.watchfile.specs.Rules.{speedRight, directionRight}
-use Rattle.watchfile.specs.Format.{windFields, bodyOf}
-use Rattle.watchfile.specs.declared.Body.{Body}
-use Rattle.watchfile.specs.declared.Body.the-variants.{Wind}
+use Rattle.watchfile.specs.Format.{windFields}
 use Rattle.watchfile.proofs.FieldLaws.{cut, wrong, right, none}
 use Rattle.reader.specs.Work.{found}
 use borrow.Author.Needs.{needs}
-use Rattle.reader.proofs.read_wind.Statement.{statement}
-use Rattle.reader.proofs.read_wind.Tie as tie
+use Rattle.reader.proofs.test_wind.Statement.{statement}
+use Rattle.reader.proofs.test_wind.Tie as tie
 
-abbrev from : tie.Start → ℕ → Answer ℕ Body
-from q k = let s = q .args .s .now in found s (drop k (windFields s)) (bodyOf 3 s)
+abbrev from : tie.Start → ℕ → Answer ℕ (Unit {0})
+from q k = let s = q .args .s .now in found s (drop k (windFields s)) tt
 
 past-speed : (c : tie.Else2) → let q = c .before .before .before .before .before in from q 0 ≡ from q 1
 past-speed c =
@@ -56,10 +54,7 @@ direction-right-requires c κs = search needs
 
 returns-4 : tie.Need-returns-4
 returns-4 c =
-    let s = c .before .before .before .before .before .before .before .before .before .args .s .now in
-    ap (λ (v : ℕ). given (Wind v (c .before .before .get162 .result))) (c .before .before .before .before .before .before .get16 .ensures)
-    ∙ ap (λ (v : ℕ). given (Wind (le16 s 0) v)) (c .before .before .get162 .ensures)
-    ∙ sym (past-speed (c .before .before .before .before)
+    sym (past-speed (c .before .before .before .before)
     ∙ right _ _ _ _ (c .before .before .before .if3 .left) (sym (direction (c .before)) ∙ c .if4 .taken)
     ∙ none _ _)
 
@@ -68,8 +63,8 @@ returns-5 c =
     sym (past-speed (c .before .before .before .before)
     ∙ wrong _ _ _ _ (c .before .before .before .if3 .left) (sym (direction (c .before)) ∙ c .if4 .left))
 
-pub read-wind-spec : {M : Type 1} → statement M
-read-wind-spec =
+pub test-wind-spec : {M : Type 1} → statement M
+test-wind-spec =
     tie.close
     (tie.spec
     returns
