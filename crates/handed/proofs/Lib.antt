@@ -1,2 +1,3 @@
 pub mod HandedLaws
+pub mod WordLaws
 pub mod SingleAnswers

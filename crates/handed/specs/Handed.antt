@@ -1,18 +1,13 @@
--- A record as C hands it over to be written.
-use mathlib.Core.Path.{_≡_}
+-- A record as it is handed over to be written.
 use mathlib.Core.Bool.{Bool, _&&_, cond}
-use mathlib.Core.List.{List, map}
-use Prim.Native.Nat.{ℕ, _-_}
 use lib.Dec.{eqb}
 use lib.IntN.{ℤ, pos, natAbs}
-use lib.ListN.{take, drop, replicate}
 use Rattle.number.specs.Whole.{within}
 use Rattle.number.specs.declared.Kept.{Kept}
-use Rattle.watchfile.specs.Format.{blank}
 use Rattle.watchfile.specs.declared.Body.{Body}
 use Rattle.watchfile.specs.declared.Body.the-variants.{Pressure, Tendency, Wind, Humidity}
 use Rattle.watchfile.specs.declared.Record.{Record}
-use Rattle.filed.specs.declared.FileRecord.{FileRecord}
+use Rattle.watchfile.specs.declared.Figures.{Figures}
 
 -- Numbers that fit two bytes, and one.
 abbrev pub half : ℤ → Bool
@@ -40,7 +35,7 @@ humidityBody e saturation deficit relative dew =
     (Humidity (natAbs e) (natAbs saturation) (natAbs deficit) (natAbs relative) dew)
     misfit
 
-abbrev pub bodyOf : FileRecord → Body
+abbrev pub bodyOf : Figures → Body
 bodyOf r =
     cond (eqb (r .kind) 1) (pressureBody (r .first .v))
     (cond (eqb (r .kind) 2) (tendencyBody (r .first) (r .second .v))
@@ -48,10 +43,5 @@ bodyOf r =
     (cond (eqb (r .kind) 4) (humidityBody (r .first .v) (r .second .v) (r .third .v) (r .fourth .v) (r .fifth))
     misfit)))
 
-abbrev pub recordOf : FileRecord → Record
+abbrev pub recordOf : Figures → Record
 recordOf r = record { minute = r .minute; body = bodyOf r }
-
--- What is written of the records handed over: the first `count`, and blank ones behind them.
-pub record HandsOver (all : List FileRecord) (count : ℕ) (r : List Record) : Type 0 where
-  pub first : take count r ≡ take count (map recordOf all)
-  pub rest : drop count r ≡ replicate (48 - count) blank

@@ -1,98 +1,21 @@
-// Records as C has them: a kind, a minute and five figures, seven words of 32 bits each. A kind that is none, and a figure that does not
-// fit its bytes, make a record that breaks the file rules.
+// Records as they are handed over: a kind, a minute and five figures, seven words of 32 bits each. A kind that is none, and a figure that
+// does not fit its bytes, make a record that breaks the file rules.
 ghost use mathlib.Core.Path.{_≡_};
 ghost use mathlib.Core.Bool.{true};
-ghost use Prim.Native.Nat.{_*_, min};
-ghost use lib.IntN.{pos, natAbs};
-ghost use lib.ListN.{length, take};
-ghost use Rattle.watchfile.specs.Format.{kept};
-ghost use Rattle.handed.specs.Handed.{half, octet, pressureBody, tendencyBody, windBody, humidityBody, bodyOf, recordIn};
-ghost use Rattle.handed.specs.Words.{signed32, wordOf, recordAt, recordsIn};
+ghost use Prim.Native.Nat.{_≤_};
+ghost use lib.IntN.{natAbs};
+ghost use lib.ListN.{length};
+ghost use Rattle.handed.specs.Handed.{half, octet, pressureBody, tendencyBody, windBody, humidityBody, bodyOf, recordOf};
+ghost use Rattle.handed.specs.Words.{signed32, figuresIn, recordAt, recordsIn};
 use number::Kept;
 use number::Number;
 use watchfile::BLANK;
 use watchfile::Body;
-use watchfile::RECORDS;
+use watchfile::Figures;
 use watchfile::Record;
-
-// A record of a watch file: its kind, 1 to 4, its minute, and its body's fields in their order.
-#[repr(C)]
-pub struct FileRecord {
-    pub kind: u32,
-    pub minute: u32,
-    pub first: Kept,
-    pub second: Kept,
-    pub third: Kept,
-    pub fourth: Kept,
-    pub fifth: Kept,
-}
 
 // The words of a record.
 pub const WORDS: usize = 7;
-
-// Words enough for one record more than a file can have.
-pub const ROOM: usize = WORDS * (RECORDS + 1);
-
-// ---- a record as it is told
-
-// A field of a body, to be told.
-fn figure(n: u16) -> Kept
-    ensures { λ r. ⌜ r ≡ kept (pos n) ⌝ }
-{
-    Number::whole(n as u32).keep()
-}
-
-// A record as it is told.
-pub fn record_told(r: Record) -> FileRecord
-    ensures { λ x. ⌜ x ≡ recordIn r ⌝ }
-{
-    let body = r.body;
-    let none = Kept { v: 0 };
-    match body {
-        Body::Pressure(p) => FileRecord {
-            kind: 1,
-            minute: r.minute,
-            first: figure(p),
-            second: none,
-            third: none,
-            fourth: none,
-            fifth: none,
-        },
-        Body::Tendency { change, absent } => FileRecord {
-            kind: 2,
-            minute: r.minute,
-            first: change,
-            second: figure(absent as u16),
-            third: none,
-            fourth: none,
-            fifth: none,
-        },
-        Body::Wind { speed, direction } => FileRecord {
-            kind: 3,
-            minute: r.minute,
-            first: figure(speed),
-            second: figure(direction),
-            third: none,
-            fourth: none,
-            fifth: none,
-        },
-        Body::Humidity {
-            e,
-            saturation,
-            deficit,
-            relative,
-            dew,
-        } => FileRecord {
-            kind: 4,
-            minute: r.minute,
-            first: figure(e),
-            second: figure(saturation),
-            third: figure(deficit),
-            fourth: figure(relative as u16),
-            fifth: dew,
-        },
-    }
-}
 
 // ---- a record as it is handed over
 
@@ -185,7 +108,7 @@ fn humidity_body(first: Kept, second: Kept, third: Kept, fourth: Kept, fifth: Ke
 }
 
 // The body of a record, by its kind.
-fn body_of(r: FileRecord) -> Body
+fn body_of(r: Figures) -> Body
     ensures { λ b. ⌜ b ≡ bodyOf r ⌝ }
 {
     let first = r.first;
@@ -208,6 +131,17 @@ fn body_of(r: FileRecord) -> Body
     Body::Pressure(0)
 }
 
+// The record that figures make.
+pub fn record_of(r: Figures) -> Record
+    ensures { λ x. ⌜ x ≡ recordOf r ⌝ }
+{
+    let body = body_of(r);
+    Record {
+        minute: r.minute,
+        body,
+    }
+}
+
 // ---- words
 
 // The number with a sign that a word holds.
@@ -218,16 +152,25 @@ fn figure_in(word: u32) -> Kept
     if word < 2147483648 {
         return whole.keep();
     }
-    whole.minus(Number { v: 4294967296 }).keep()
+    let less = whole.minus(Number { v: 4294967296 });
+    let narrow = less.v as i32;
+    Kept { v: narrow }
 }
 
-// The word that holds a number with a sign.
-fn word_of(figure: Kept) -> u32
-    ensures { λ r. ⌜ r ≡ wordOf (figure .v) ⌝ }
+// The figures at the start of words.
+fn figures_in(row: &[u32]) -> Figures
+    requires { ⌜ 7 ≤ length (now row) ⌝ }
+    ensures { λ r. ⌜ r ≡ figuresIn (now (row .entry)) ⌝ }
 {
-    let turn = Number { v: 4294967296 };
-    let size = figure.number().plus(turn).size();
-    (size % 4294967296) as u32
+    Figures {
+        kind: row[0],
+        minute: row[1],
+        first: figure_in(row[2]),
+        second: figure_in(row[3]),
+        third: figure_in(row[4]),
+        fourth: figure_in(row[5]),
+        fifth: figure_in(row[6]),
+    }
 }
 
 // How many records words hold; of what is left behind the last, none is made.
@@ -238,65 +181,12 @@ pub fn count(words: &[u32]) -> usize
 }
 
 // The record at a place of the words that C hands over; a blank one where there are not so many.
-pub fn record(words: &[u32], i: usize) -> Record
+pub fn record_at(words: &[u32], i: usize) -> Record
     ensures { λ r. ⌜ r ≡ recordAt (now (words .entry)) i ⌝ }
 {
     if count(words) <= i {
         return BLANK;
     }
     let at = WORDS * i;
-    let row = &words[at..];
-    let r = FileRecord {
-        kind: row[0],
-        minute: row[1],
-        first: figure_in(row[2]),
-        second: figure_in(row[3]),
-        third: figure_in(row[4]),
-        fourth: figure_in(row[5]),
-        fifth: figure_in(row[6]),
-    };
-    let body = body_of(r);
-    Record {
-        minute: r.minute,
-        body,
-    }
-}
-
-// The seven words of a record.
-fn words_in(r: Record) -> [u32; WORDS]
-    ensures { λ w. ⌜ recordAt w 0 ≡ r ⌝ }
-{
-    let told = record_told(r);
-    [
-        told.kind,
-        told.minute,
-        word_of(told.first),
-        word_of(told.second),
-        word_of(told.third),
-        word_of(told.fourth),
-        word_of(told.fifth),
-    ]
-}
-
-// The first `count` records as words, 48 of them at the most.
-pub fn words_of(records: [Record; RECORDS], count: usize) -> [u32; ROOM]
-    ensures { λ w. ⌜ recordsIn (take (7 * min count 48) w) ≡ take count records ⌝ }
-{
-    let mut words = [0u32; ROOM];
-    let mut i: usize = 0;
-    while i < RECORDS {
-        if i < count {
-            let seven = words_in(records[i]);
-            let at = WORDS * i;
-            words[at] = seven[0];
-            words[at + 1] = seven[1];
-            words[at + 2] = seven[2];
-            words[at + 3] = seven[3];
-            words[at + 4] = seven[4];
-            words[at + 5] = seven[5];
-            words[at + 6] = seven[6];
-        }
-        i += 1;
-    }
-    words
+    record_of(figures_in(&words[at..]))
 }

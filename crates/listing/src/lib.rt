@@ -124,7 +124,7 @@ fn put_records(text: &mut [u8], at: usize, count: usize, file: &[u8]) -> usize
     let mut place = at;
     let mut i = 0;
     while i < count {
-        match reader::record(file, i) {
+        match reader::record_at(file, i) {
             RecordFound::Found(r) => {
                 place = put_record(text, place, r);
             }

@@ -474,7 +474,7 @@ fn figures_at(s: &[u8], kind: u8, minute: u32) -> Figures
 }
 
 // The record with an index, counted from 0: of a good file its i-th, of any bytes what stands there. All is 0 where nothing does.
-pub fn record(file: &[u8], i: usize) -> Figures
+pub fn record_at(file: &[u8], i: usize) -> Figures
     ensures { λ r. ⌜ r ≡ recordAt (now (file .entry)) i ⌝ }
 {
     match find(file, i) {

@@ -1,18 +1,20 @@
 -- From the checked records and the bytes written to what a write answers and leaves. Assumes nothing.
 use mathlib.Core.Path.{_≡_, sym, ap, _∙_}
 use mathlib.Core.List.{List, [], _∷_, _++_, append-assoc}
-use Prim.Native.Nat.{ℕ, _+_, _*_, _≤_, _<_}
+use Prim.Native.Nat.{ℕ, _+_, _*_, _≤_, _<_, min}
 use native.Mathlib.Omega.{arith}
 use lib.IntN.{ℤ}
-use lib.ListN.{length, take, drop}
-use lib.Seq.{sets, sets-eq, length-take-le}
+use lib.ListN.{length, take, drop, getD, length-take}
+use lib.Seq.{sets, sets-eq, length-take-le, getD-take}
 use borrow.Author.Tests.{lt-ltb, le-ltb}
 use Rattle.number.specs.Refusal.{Test, refused, given, answer, Numbered, numbered}
 use Rattle.number.proofs.RefusalLaws.{refused-stays, given-goes-on}
 use Rattle.octets.specs.Lent.{short}
-use Rattle.watchfile.specs.Format.{DewRule, recordTests, past, rowsBytes, bodiesBytes, fileOf, startOf, writing}
+use Rattle.watchfile.specs.Format.{DewRule, blank, recordTests, past, rowsBytes, bodiesBytes, fileOf, startOf, writing}
 use Rattle.watchfile.specs.declared.Record.{Record}
-use Rattle.writer.specs.Write.{Wrote, Checks, checkedAs, rulesTests}
+use Rattle.handed.specs.Words.{recordAt, recordsIn}
+use Rattle.handed.proofs.WordLaws.{records-at}
+use Rattle.writer.specs.Write.{Wrote, offered, Checks, checkedAs, rulesTests}
 use Rattle.writer.specs.declared.Written.the-variants as written
 use Rattle.writer.specs.declared.Checked.{Checked}
 use Rattle.writer.specs.declared.Checked.the-variants as checked
@@ -47,7 +49,7 @@ module _ (rule : ℕ → ℤ) (all : List Record) (count room : ℕ) where
   writing-done n l h e = last-test n e ∙ (rw (sym l, le-ltb room n h))
 
 -- the head, the rows and the bodies, written one after the other, are the file
-pub file-written : (all : List Record) (count : ℕ) (b b1 b2 : List ℕ) → length all ≡ 48 → count ≤ 48 → length (fileOf (take count all)) ≤ length b
+pub file-written : (all : List Record) (count : ℕ) (b b1 b2 : List ℕ) → length all ≡ min count 48 → count ≤ 48 → length (fileOf (take count all)) ≤ length b
     → b1 ≡ sets b 0 (0x57 ∷ 0x54 ∷ 1 ∷ count ∷ [])
     → b2 ≡ sets (sets b1 4 (rowsBytes (take count all) (startOf count))) (startOf count) (bodiesBytes (take count all))
     → b2 ≡ fileOf (take count all) ++ drop (length (fileOf (take count all))) b
@@ -85,7 +87,7 @@ module _ (all : List Record) (count : ℕ) (q : Checked) (ok : Checks all count 
       let w = writing-short rule all count (length b) n (needed n e .1) h (ap checkedAs (sym e) ∙ ok .answer rule dew) in
       record { answer = rw w; bytes = rw w }
 
-  pub wrote-done : (n : ℕ) → q ≡ checked.Needs n → n ≤ length b → (b1 b2 : List ℕ) → length all ≡ 48 → b1 ≡ sets b 0 (0x57 ∷ 0x54 ∷ 1 ∷ count ∷ [])
+  pub wrote-done : (n : ℕ) → q ≡ checked.Needs n → n ≤ length b → (b1 b2 : List ℕ) → length all ≡ min count 48 → b1 ≡ sets b 0 (0x57 ∷ 0x54 ∷ 1 ∷ count ∷ [])
       → b2 ≡ sets (sets b1 4 (rowsBytes (take count all) (startOf count))) (startOf count) (bodiesBytes (take count all))
       → (rule : ℕ → ℤ) → DewRule rule → Wrote rule all count b b2 (written.Done n)
   wrote-done n e h b1 b2 l e1 e2 rule dew =
@@ -94,5 +96,13 @@ module _ (all : List Record) (count : ℕ) (q : Checked) (ok : Checks all count 
       record { answer = rw w (ap given (f .1)); bytes = rw w (file-written all count b b1 b2 l (f .0) (omega arith) e1 e2) }
 
   -- the room that each part asks for
-  pub room-asked : (n : ℕ) → q ≡ checked.Needs n → length all ≡ 48 → n ≡ startOf count + length (bodiesBytes (take count all))
+  pub room-asked : (n : ℕ) → q ≡ checked.Needs n → length all ≡ min count 48 → n ≡ startOf count + length (bodiesBytes (take count all))
   room-asked n e l = omega (arith, needed n e, length-take-le count all (omega (arith, needed n e)), length-file (take count all))
+
+-- ---- the records that words hold
+
+pub length-offered : (w : List ℕ) → length (offered w) ≡ min (length (recordsIn w)) 48
+length-offered w = length-take 48 (recordsIn w) ∙ omega arith
+
+pub offered-at : (w : List ℕ) (i : ℕ) → i < length (recordsIn w) → i < 48 → recordAt w i ≡ getD (offered w) i blank
+offered-at w i h few = sym (getD-take 48 (recordsIn w) i blank few ∙ records-at w i h)

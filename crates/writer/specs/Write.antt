@@ -8,6 +8,7 @@ use Rattle.number.specs.Refusal.{Test, Answer, refused, given, answer, Numbered
 use Rattle.octets.specs.Lent.{sized, leftBy}
 use Rattle.watchfile.specs.Format.{DewRule, fileOf, recordTests, past, writing}
 use Rattle.watchfile.specs.declared.Record.{Record}
+use Rattle.handed.specs.Words.{recordsIn}
 use Rattle.writer.specs.declared.Written.{Written}
 use Rattle.writer.specs.declared.Written.the-variants as written
 use Rattle.writer.specs.declared.Checked.{Checked}
@@ -23,6 +24,14 @@ writtenAs (written.TooShort n) = refused (numbered 17 (n ∷ []))
 pub record Wrote (rule : ℕ → ℤ) (all : List Record) (count : ℕ) (before after : List ℕ) (w : Written) : Type 0 where
   pub answer : writtenAs w ≡ sized (writing rule all count (length before))
   pub bytes : after ≡ leftBy before (writing rule all count (length before))
+
+-- What is looked at of the records that words hold: 48 at the most, since the 49th is refused whatever it is.
+abbrev pub offered : List ℕ → List Record
+offered words = take 48 (recordsIn words)
+
+-- A write of all records that words hold.
+abbrev pub WroteWords : (ℕ → ℤ) → List ℕ → List ℕ → List ℕ → Written → Type 0
+WroteWords rule words before after w = Wrote rule (offered words) (length (recordsIn words)) before after w
 
 -- ---- before a byte is written: the tests of 16 alone
 

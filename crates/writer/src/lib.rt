@@ -8,11 +8,11 @@ ghost use lib.Seq.{sets};
 ghost use Rattle.octets.specs.Bytes.{bytes16, bytes32};
 ghost use Rattle.watchfile.specs.Rules.{sizeOf};
 ghost use Rattle.watchfile.specs.Format.{DewRule, kindOf, bodyBytes, rowsBytes, bodiesBytes, startOf};
-ghost use Rattle.writer.specs.Write.{Wrote, Checks};
+ghost use Rattle.handed.specs.Words.{recordsIn};
+ghost use Rattle.writer.specs.Write.{offered, WroteWords, Checks};
 use number::Kept;
 use watchfile::Body;
 use watchfile::RECORDS;
-use watchfile::Record;
 
 // What a write came to.
 pub enum Written {
@@ -137,14 +137,14 @@ fn write_head(buffer: &mut [u8], count: usize)
 
 // Writes each record: its row of the contents, and its body straight into the buffer behind the contents.
 fn write_records(buffer: &mut [u8], records: &[u32], count: usize)
-    requires { ⌜ (length (recordsIn (now records)) ≡ count) × (startOf count + length (bodiesBytes (recordsIn (now records))) ≤ length (now buffer)) × (count ≤ 48) ⌝ }
-    ensures { λ _. ⌜ now (buffer .exit) ≡ sets (sets (now (buffer .entry)) 4 (rowsBytes (recordsIn (now (records .entry))) (startOf count))) (startOf count) (bodiesBytes (recordsIn (now (records .entry)))) ⌝ }
+    requires { ⌜ (length (recordsIn (now records)) ≡ count) × (startOf count + length (bodiesBytes (take count (offered (now records)))) ≤ length (now buffer)) × (count ≤ 48) ⌝ }
+    ensures { λ _. ⌜ now (buffer .exit) ≡ sets (sets (now (buffer .entry)) 4 (rowsBytes (take count (offered (now (records .entry)))) (startOf count))) (startOf count) (bodiesBytes (take count (offered (now (records .entry))))) ⌝ }
 {
     let mut i: usize = 0;
     let mut row: usize = 4;
     let mut at: usize = 4 + 8 * count;
     while i < count {
-        let r = handed::record(records, i);
+        let r = handed::record_at(records, i);
         let body = r.body;
         let kind = body.kind();
         write_row(&mut buffer[row..], kind, at as u16, r.minute);
@@ -155,10 +155,10 @@ fn write_records(buffer: &mut [u8], records: &[u32], count: usize)
     }
 }
 
-// The bytes that the file of these records needs, or the first record that may not be written.
+// The bytes that the file of the records needs, or the first record that may not be written.
 fn check(records: &[u32], count: usize) -> Checked
     requires { ⌜ length (recordsIn (now records)) ≡ count ⌝ }
-    ensures { λ r. ⌜ Checks (recordsIn (now (records .entry))) r ⌝ }
+    ensures { λ r. ⌜ Checks (offered (now (records .entry))) count r ⌝ }
 {
     let mut i: usize = 0;
     let mut before: u64 = 0;
@@ -167,7 +167,7 @@ fn check(records: &[u32], count: usize) -> Checked
         if RECORDS <= i {
             return Checked::BreaksRules(RECORDS);
         }
-        let r = handed::record(records, i);
+        let r = handed::record_at(records, i);
         if !watchfile::record_right(before, r) {
             return Checked::BreaksRules(i);
         }
@@ -180,9 +180,9 @@ fn check(records: &[u32], count: usize) -> Checked
     Checked::Needs(size)
 }
 
-// Writes records, lent as words, as a watch file into the lent buffer, or gives refusal 16 or 17 and leaves every byte.
+// Writes the records that words hold as a watch file into the lent buffer, or gives refusal 16 or 17 and leaves every byte.
 pub fn write(buffer: &mut [u8], records: &[u32]) -> Written
-    ensures { λ r. ⌜ ((rule : ℕ → ℤ) → DewRule rule → Wrote rule (recordsIn (now (records .entry))) (now (buffer .entry)) (now (buffer .exit)) r) ⌝ }
+    ensures { λ r. ⌜ ((rule : ℕ → ℤ) → DewRule rule → WroteWords rule (now (records .entry)) (now (buffer .entry)) (now (buffer .exit)) r) ⌝ }
 {
     let count = handed::count(records);
     match check(records, count) {

@@ -97,7 +97,7 @@ pub extern "C" fn zhitomrak_read(file: &[u8]) -> FileTold
 pub extern "C" fn zhitomrak_record(file: &[u8], index: usize) -> FileRecord
     ensures { λ r. ⌜ r ≡ foundIn (recordAt (now (file .entry)) index) ⌝ }
 {
-    filed::found_told(reader::record(file, index))
+    filed::found_told(reader::record_at(file, index))
 }
 
 // Writes records, lent as words, as a watch file into the lent buffer; or 16 with the index of the first that breaks the rules (or of

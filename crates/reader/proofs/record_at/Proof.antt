@@ -1,4 +1,4 @@
--- `record` meets its contract: the body of its kind, where one was found. Assumes nothing.
+-- `record_at` meets its contract: the body of its kind, where one was found. Assumes nothing.
 use mathlib.Core.Path.{_≡_, sym, ap, _∙_}
 use mathlib.Core.List.{List}
 use Prim.Native.Nat.{ℕ, _+_, _≤_}
@@ -12,8 +12,8 @@ use Rattle.reader.specs.Work.{rowOf}
 use Rattle.reader.specs.declared.Row.{Row}
 use Rattle.reader.proofs.ContentsLaws.{part-all, length-part}
 use Rattle.reader.proofs.RecordLaws.{nowhere-is, at-is}
-use Rattle.reader.proofs.record.Statement.{statement}
-use Rattle.reader.proofs.record.Tie as tie
+use Rattle.reader.proofs.record_at.Statement.{statement}
+use Rattle.reader.proofs.record_at.Tie as tie
 
 find-requires : tie.Need-find-requires
 find-requires c κs = search needs
@@ -66,8 +66,8 @@ returns-2 c =
     ∙ ap (λ (r : Row). bodyFigures (r .minute) (bodyOf (r .kind) (drop (offsetAt s (q .i)) s))) (t .1)
     ∙ sym (t .3)
 
-pub record-spec : {M : Type 1} → statement M
-record-spec =
+pub record-at-spec : {M : Type 1} → statement M
+record-at-spec =
     tie.close
     (tie.spec
     find-requires
