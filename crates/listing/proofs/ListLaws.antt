@@ -12,23 +12,24 @@ use Rattle.text.specs.Text.{Put}
 use Rattle.text.proofs.PutLaws.{put-front}
 use Rattle.watchfile.specs.Format.{reading, brokenAt}
 use Rattle.watchfile.specs.declared.Record.{Record}
-use Rattle.reader.specs.Read.{counted, places}
+use Rattle.reader.specs.Read.{counted}
 use Rattle.reader.proofs.VerdictLaws.{broken-is, good-is}
 use Rattle.listing.specs.declared.Listed.the-variants.{Text, TooShort}
-use Rattle.listing.specs.Listing.{recordLines, headLine, refusedLine, listingOf, listing, Lists}
-use Rattle.listing.proofs.FitLaws.{count-fits}
+use Rattle.listing.specs.Listing.{headLine, refusedLine, listingOf, listing, Lists}
+use Rattle.listing.specs.Lines.{linesFrom}
+use Rattle.listing.proofs.LineLaws.{good-lines}
 
 -- ---- what was read
 
--- a good file: as many as were counted, at most 48, and the lines of the records at the first places
-pub good-count : (dew : ℕ → ℤ) (s : List ℕ) (n : ℕ) (all : List Record) → counted (reading dew s) ≡ given n → all ≡ places (reading dew s) → n ≤ 48
-good-count dew s n all v r =
-    let good = good-is (reading dew s) n all v r in
-    omega (arith, good .1, count-fits dew s (take n all) (good .0))
-
-pub good-text : (a : Answer ℕ (List Record)) (n : ℕ) (all : List Record) → counted a ≡ given n → all ≡ places a → headLine n ++ recordLines (take n all) ≡ listingOf a
+-- a good file: as many as were counted, and the lines of its records
+pub good-text : (rule : ℕ → ℤ) (s : List ℕ) (n : ℕ) → counted (reading rule s) ≡ given n → headLine n ++ linesFrom s 0 n ≡ listingOf (reading rule s)
 unfolding listingOf
-good-text a n all v r = let good = good-is a n all v r in rw (good .0, good .1)
+good-text rule s n v =
+    let good = good-is (reading rule s) n v in
+    let rs = good .0 in
+    ap (λ (k : ℕ). headLine k ++ linesFrom s 0 k) (sym (good .2))
+    ∙ ap (λ (x : List ℕ). headLine (length rs) ++ x) (good-lines rule s rs (good .1))
+    ∙ ap listingOf (sym (good .1))
 
 pub broken-text : (a : Answer ℕ (List Record)) (place : ℕ) → counted a ≡ refused (brokenAt place) → refusedLine place ≡ listingOf a
 unfolding listingOf
@@ -51,3 +52,10 @@ module _ {room whole text before : List ℕ} {n : ℕ} (fits : length text ≤ l
       let front : take n whole ≡ text = ap (take n) (put-front p fits .0) ∙ take-at text (drop (length text) room) n (sym size) in
       let enough : length text ≤ length before = omega arith in
       record { answer = rw (le-ltb (length before) (length text) enough, size); bytes = rw (le-ltb (length before) (length text) enough) (put-front (rw front at q) enough .0) }
+
+-- or straight into the buffer, where that has room for it
+pub lists-straight : {text before after : List ℕ} {k : ℕ} → length text ≤ length before → Put before after 0 text k → Lists text before after (Text k)
+unfolding answer listing
+lists-straight {text} {before} enough q =
+    let f = put-front q enough in
+    record { answer = rw (le-ltb (length before) (length text) enough) (ap given (f .1)); bytes = rw (le-ltb (length before) (length text) enough) (f .0) }

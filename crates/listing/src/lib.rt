@@ -3,16 +3,15 @@ ghost use mathlib.Core.Path.{_≡_};
 ghost use mathlib.Core.List.{[], _∷_, _++_};
 ghost use Prim.Native.Nat.{ℕ, _≤_};
 ghost use lib.IntN.{ℤ};
-ghost use lib.ListN.{length, take};
-ghost use Rattle.text.specs.Text.{field, fieldOf, Put};
-ghost use Rattle.listing.specs.Listing.{letter, bodyText, recordLine, recordLines, headLine, refusedLine, listingOf, Lists};
+ghost use lib.ListN.{length};
+ghost use Rattle.text.specs.Text.{fieldOf, Put};
+ghost use Rattle.listing.specs.Listing.{headLine, refusedLine, listingOf, Lists};
+ghost use Rattle.listing.specs.Lines.{letterOf, humidityText, figuresText, figuresLine, linesFrom};
 ghost use Rattle.watchfile.specs.Format.{DewRule, reading};
 use number::Kept;
-use reader::RecordFound;
 use reader::Verdict;
-use watchfile::Body;
+use watchfile::Figures;
 use watchfile::RECORDS;
-use watchfile::Record;
 
 // What listing came to.
 pub enum Listed {
@@ -28,91 +27,69 @@ const LINE: usize = 1 + 11 + 3 * 6 + 4 + 12 + 1;
 // Room for every listing: `WT 1 48` with its end, and 48 lines.
 pub const TEXT: usize = 8 + RECORDS * LINE;
 
-// Puts the fields of a tendency. As all of these it gives the place behind what it put.
-fn put_tendency(text: &mut [u8], at: usize, change: Kept, absent: u8) -> usize
-    ensures { λ r. ⌜ Put (now (text .entry)) (now (text .exit)) at (fieldOf (change .v) ++ field absent) r ⌝ }
+// Puts two fields. As all of these it gives the place behind what it put.
+fn put_pair(text: &mut [u8], at: usize, first: Kept, second: Kept) -> usize
+    ensures { λ r. ⌜ Put (now (text .entry)) (now (text .exit)) at (fieldOf (first .v) ++ fieldOf (second .v)) r ⌝ }
 {
-    let behind = text::put_signed(text, at, change.number());
-    text::put_field(text, behind, absent as u64)
-}
-
-// Puts two fields.
-fn put_pair(text: &mut [u8], at: usize, first: u16, second: u16) -> usize
-    ensures { λ r. ⌜ Put (now (text .entry)) (now (text .exit)) at (field first ++ field second) r ⌝ }
-{
-    let behind = text::put_field(text, at, first as u64);
-    text::put_field(text, behind, second as u64)
+    let behind = text::put_signed(text, at, first.number());
+    text::put_signed(text, behind, second.number())
 }
 
 // Puts the fields of a humidity.
-fn put_humidity(
-    text: &mut [u8],
-    at: usize,
-    e: u16,
-    saturation: u16,
-    deficit: u16,
-    relative: u8,
-    dew: Kept,
-) -> usize
-    ensures { λ r. ⌜ Put (now (text .entry)) (now (text .exit)) at (field e ++ (field saturation ++ (field deficit ++ (field relative ++ fieldOf (dew .v))))) r ⌝ }
+fn put_humidity(text: &mut [u8], at: usize, r: Figures) -> usize
+    ensures { λ place. ⌜ Put (now (text .entry)) (now (text .exit)) at (humidityText r) place ⌝ }
 {
-    let second = text::put_field(text, at, e as u64);
-    let third = text::put_field(text, second, saturation as u64);
-    let fourth = text::put_field(text, third, deficit as u64);
-    let fifth = text::put_field(text, fourth, relative as u64);
-    text::put_signed(text, fifth, dew.number())
+    let first = r.first;
+    let second = r.second;
+    let third = r.third;
+    let fourth = r.fourth;
+    let fifth = r.fifth;
+    let half = put_pair(text, at, first, second);
+    let behind = put_pair(text, half, third, fourth);
+    text::put_signed(text, behind, fifth.number())
 }
 
-// The letter of a body's kind.
-fn letter(body: Body) -> u8
-    ensures { λ r. ⌜ r ∷ [] ≡ letter body ⌝ }
+// The letter of a kind.
+fn letter(kind: u32) -> u8
+    ensures { λ r. ⌜ r ∷ [] ≡ letterOf kind ⌝ }
 {
-    match body {
-        Body::Pressure(_) => b'P',
-        Body::Tendency {
-            change: _,
-            absent: _,
-        } => b'T',
-        Body::Wind {
-            speed: _,
-            direction: _,
-        } => b'W',
-        Body::Humidity {
-            e: _,
-            saturation: _,
-            deficit: _,
-            relative: _,
-            dew: _,
-        } => b'H',
+    if kind == 1 {
+        return b'P';
     }
+    if kind == 2 {
+        return b'T';
+    }
+    if kind == 3 {
+        return b'W';
+    }
+    b'H'
 }
 
 // Puts the fields of a body.
-fn put_body(text: &mut [u8], at: usize, body: Body) -> usize
-    ensures { λ r. ⌜ Put (now (text .entry)) (now (text .exit)) at (bodyText body) r ⌝ }
+fn put_body(text: &mut [u8], at: usize, r: Figures) -> usize
+    ensures { λ place. ⌜ Put (now (text .entry)) (now (text .exit)) at (figuresText r) place ⌝ }
 {
-    match body {
-        Body::Pressure(p) => text::put_field(text, at, p as u64),
-        Body::Tendency { change, absent } => put_tendency(text, at, change, absent),
-        Body::Wind { speed, direction } => put_pair(text, at, speed, direction),
-        Body::Humidity {
-            e,
-            saturation,
-            deficit,
-            relative,
-            dew,
-        } => put_humidity(text, at, e, saturation, deficit, relative, dew),
+    let first = r.first;
+    if r.kind == 1 {
+        return text::put_signed(text, at, first.number());
     }
+    if r.kind == 4 {
+        return put_humidity(text, at, r);
+    }
+    let second = r.second;
+    put_pair(text, at, first, second)
 }
 
-// Puts the line of a record.
-fn put_record(text: &mut [u8], at: usize, r: Record) -> usize
-    ensures { λ place. ⌜ Put (now (text .entry)) (now (text .exit)) at (recordLine r) place ⌝ }
+// Puts the line of a record; nothing where there is none.
+fn put_record(text: &mut [u8], at: usize, r: Figures) -> usize
+    ensures { λ place. ⌜ Put (now (text .entry)) (now (text .exit)) at (figuresLine r) place ⌝ }
 {
-    let body = r.body;
-    let minute = text::put_byte(text, at, letter(body));
+    if r.kind == 0 {
+        return text::put_bytes(text, at, b"");
+    }
+    let minute = text::put_byte(text, at, letter(r.kind));
     let fields = text::put_field(text, minute, r.minute as u64);
-    let end = put_body(text, fields, body);
+    let end = put_body(text, fields, r);
     text::put_byte(text, end, b'\n')
 }
 
@@ -124,12 +101,7 @@ fn put_records(text: &mut [u8], at: usize, count: usize, file: &[u8]) -> usize
     let mut place = at;
     let mut i = 0;
     while i < count {
-        match reader::record_at(file, i) {
-            RecordFound::Found(r) => {
-                place = put_record(text, place, r);
-            }
-            RecordFound::Nowhere => {}
-        }
+        place = put_record(text, place, reader::record_at(file, i));
         i += 1;
     }
     place

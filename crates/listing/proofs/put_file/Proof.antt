@@ -1,29 +1,26 @@
 -- `put_file` meets its contract: the lines of what was read. Assumes nothing.
+use borrow.Author.Needs.{needs}
 use mathlib.Core.Path.{sym, ap, _∙_, subst}
 use mathlib.Core.List.{List}
 use Prim.Native.Nat.{ℕ}
 use Rattle.text.specs.Text.{Put}
 use Rattle.watchfile.specs.Format.{reading}
-use Rattle.watchfile.proofs.DewRules.{the-rule}
 use Rattle.reader.specs.Read.{verdictAs}
-use Rattle.listing.proofs.ListLaws.{good-count, good-text, broken-text}
-use borrow.Author.Needs.{needs}
+use Rattle.listing.proofs.ListLaws.{good-text, broken-text}
 use Rattle.listing.proofs.put_file.Statement.{statement}
 use Rattle.listing.proofs.put_file.Tie as tie
 
 read-requires : tie.Need-read-requires
 read-requires c κs = search needs
 
-enum-known-verdict : tie.Need-enum-known-verdict
-enum-known-verdict c = search needs
+enum-known-count : tie.Need-enum-known-count
+enum-known-count c = search needs
 
 put-listing-requires : tie.Need-put-listing-requires
-put-listing-requires c κs =
-    let h = c .before .before .before .before .before .read .ensures (the-rule .0) (the-rule .1) in
-    good-count (the-rule .0) (c .before .before .before .before .before .before .before .before .args .file .now) _ _ (sym (h .verdict) ∙ ap verdictAs (c .before .before .verdict .given .1)) (h .records)
+put-listing-requires c κs = search needs
 
-enum-known-verdict-2 : tie.Need-enum-known-verdict-2
-enum-known-verdict-2 c = search needs
+enum-known-place : tie.Need-enum-known-place
+enum-known-place c = search needs
 
 put-refusal-requires : tie.Need-put-refusal-requires
 put-refusal-requires c κs = search needs
@@ -34,10 +31,10 @@ same-length c = search needs
 returns : tie.Need-returns
 returns c =
     λ rule ruled.
-    let s = c .before .before .before .before .before .before .before .before .before .before .before .args in
-    let h = c .before .before .before .before .before .before .before .before .read .ensures rule ruled in
-    subst (λ (x : List ℕ). Put (s .text .now) (c .before .before .put-listing .last .0) 0 x (c .before .before .put-listing .result))
-    (good-text (reading rule (s .file .now)) _ _ (sym (h .verdict) ∙ ap verdictAs (c .before .before .before .before .before .verdict .given .1)) (h .records))
+    let q = c .before .before .before .before .before .before .before .before .before .before .args in
+    let h = c .before .before .before .before .before .before .before .read .ensures rule ruled in
+    subst (λ (x : List ℕ). Put (q .text .now) (c .before .before .put-listing .last .0) 0 x (c .before .before .put-listing .result))
+    (good-text rule (q .file .now) (c .before .before .before .before .before .count .given .0 .0) (sym h ∙ ap verdictAs (c .before .before .before .before .before .count .given .1)))
     (c .before .before .put-listing .ensures)
 
 same-length-2 : tie.Need-same-length-2
@@ -46,10 +43,10 @@ same-length-2 c = search needs
 returns-2 : tie.Need-returns-2
 returns-2 c =
     λ rule ruled.
-    let s = c .before .before .before .before .before .before .before .before .before .before .before .args in
-    let h = c .before .before .before .before .before .before .before .before .read .ensures rule ruled in
-    subst (λ (x : List ℕ). Put (s .text .now) (c .before .before .put-refusal .last .0) 0 x (c .before .before .put-refusal .result))
-    (broken-text (reading rule (s .file .now)) _ (sym (h .verdict) ∙ ap verdictAs (c .before .before .before .before .before .verdict2 .given .1)))
+    let q = c .before .before .before .before .before .before .before .before .before .before .args in
+    let h = c .before .before .before .before .before .before .before .read .ensures rule ruled in
+    subst (λ (x : List ℕ). Put (q .text .now) (c .before .before .put-refusal .last .0) 0 x (c .before .before .put-refusal .result))
+    (broken-text (reading rule (q .file .now)) (c .before .before .before .before .before .place .given .0 .0) (sym h ∙ ap verdictAs (c .before .before .before .before .before .place .given .1)))
     (c .before .before .put-refusal .ensures)
 
 pub put-file-spec : {M : Type 1} → statement M
@@ -57,9 +54,9 @@ put-file-spec =
     tie.close
     (tie.spec
     read-requires
-    enum-known-verdict
+    enum-known-count
     put-listing-requires
-    enum-known-verdict-2
+    enum-known-place
     put-refusal-requires
     same-length
     returns

@@ -1,36 +1,34 @@
 -- `put_records` meets its contract. The invariant: who puts the lines that are left from here on has put all. Assumes nothing.
 use mathlib.Core.List.{List}
-use mathlib.Core.Path.{_≡_, refl, _∙_}
+use mathlib.Core.Path.{_≡_, refl, ap, _∙_, subst}
 use Prim.Native.Nat.{ℕ, _-_, _≤_}
 use native.Mathlib.Omega.{arith}
-use lib.ListN.{length, take}
+use lib.ListN.{length}
 use borrow.Author.Needs.{needs}
+use Rattle.watchfile.specs.declared.Figures.{Figures}
 use Rattle.text.specs.Text.{Put}
 use Rattle.text.proofs.PutLaws.{put-inside}
-use Rattle.listing.specs.Listing.{recordLines}
-use Rattle.listing.proofs.LineLaws.{rest, put-line, no-line}
+use Rattle.listing.specs.Lines.{figuresLine, linesFrom}
+use Rattle.listing.proofs.LineLaws.{put-line, no-line}
 use Rattle.listing.proofs.put_records.Statement.{statement}
 use Rattle.listing.proofs.put_records.Tie as tie
 
 abbrev Inv-loop : tie.InvT-loop
-Inv-loop text₀ at count records place₀ i₀ text place i =
+Inv-loop text₀ at count file place₀ i₀ text place i =
     (i ≤ count) × (place ≤ length text) × (length text ≡ length text₀)
-    × ((after : List ℕ) (k : ℕ) → Put text after place (recordLines (rest records count i)) k
-    → Put text₀ after at (recordLines (take count records)) k)
+    × ((after : List ℕ) (k : ℕ) → Put text after place (linesFrom file i (count - i)) k → Put text₀ after at (linesFrom file 0 count) k)
 
 abbrev μ-loop : tie.MeasureT-loop
-μ-loop text₀ at count records place₀ i₀ text place i = count - i
+μ-loop text₀ at count file place₀ i₀ text place i = count - i
 
 loop-holds : tie.Need-loop-holds Inv-loop μ-loop
 loop-holds c =
-    let e : c .before .args .count - 0 ≡ c .before .args .count = omega arith in
-    (search needs, search needs, refl, λ after k p. rw e at p)
+    let q = c .before .before .args in
+    let e : q .count - 0 ≡ q .count = omega arith in
+    (search needs, c .before .before .pre, refl, λ after k p. rw e at p)
 
-mul-put-record : tie.Need-mul-put-record Inv-loop μ-loop
-mul-put-record c = search needs
-
-array-copy-out-put-record : tie.Need-array-copy-out-put-record Inv-loop μ-loop
-array-copy-out-put-record c = search needs
+record-at-requires : tie.Need-record-at-requires Inv-loop μ-loop
+record-at-requires c κs = search needs
 
 put-record-requires : tie.Need-put-record-requires Inv-loop μ-loop
 put-record-requires c κs = search needs
@@ -44,11 +42,11 @@ loop-less c = search needs
 loop-again : tie.Need-loop-again Inv-loop μ-loop
 loop-again c =
     let l = c .before .before .before .before .before .before .loop in
-    let s = c .before .before .before .before .before .before .before .before in
-    let p = c .before .before .put-record .ensures in
+    let q = c .before .before .before .before .before .before .before .before .before .args in
+    let put = c .before .before .put-record in
+    let p = subst (λ (f : Figures). Put (l .text) (put .last .0) (l .place) (figuresLine f) (put .result)) (c .before .before .before .record-at .ensures) (put .ensures) in
     let z = put-inside p in
-    let n : length (s .args .t4) ≡ 48 = s .good .1 .1 .1 .0 .1 .0 .1 in
-    (search needs, omega arith, z .0 ∙ l .inv .2, λ after k q. l .inv .3 after k (put-line (s .args .t4) (s .args .count) (l .i) _ (c .before .before .before .before .before .loop-test .taken) (omega arith) p q))
+    (search needs, omega arith, z .0 ∙ l .inv .2, λ after k r. l .inv .3 after k (put-line (q .file .now) (q .count) (l .i) (c .before .before .before .before .before .loop-test .taken) p r))
 
 same-length : tie.Need-same-length Inv-loop μ-loop
 same-length c = search needs
@@ -61,15 +59,4 @@ returns c =
 pub put-records-spec : {M : Type 1} → statement M
 put-records-spec =
     tie.close
-    (tie.spec
-    Inv-loop
-    μ-loop
-    loop-holds
-    mul-put-record
-    array-copy-out-put-record
-    put-record-requires
-    add-i
-    loop-less
-    loop-again
-    same-length
-    returns)
+    (tie.spec Inv-loop μ-loop loop-holds record-at-requires put-record-requires add-i loop-less loop-again same-length returns)
