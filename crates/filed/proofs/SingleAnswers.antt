@@ -1,13 +1,9 @@
 -- Each public contract allows a single answer: it is the one that its definition gives. Assumes nothing.
 use mathlib.Core.Path.{sym, _∙_}
 use Rattle.number.specs.Single.{Single}
-use Rattle.filed.proofs.looked_at.Reads as looked-at
 use Rattle.filed.proofs.file_told.Reads as file-told
 use Rattle.filed.proofs.write_told.Reads as write-told
 use Rattle.filed.proofs.listed_told.Reads as listed-told
-
-pub single-looked-at : Single looked-at.Post
-single-looked-at κs a r r′ s s′ p q = p ∙ sym q
 
 pub single-file-told : Single file-told.Post
 single-file-told κs a r r′ s s′ p q = p ∙ sym q

@@ -1,13 +1,10 @@
-// Watch files as C sees them: the records of a file that was read, and what a write and a listing come to.
+// Watch files as C sees them: what reading, writing and listing one come to.
 ghost use mathlib.Core.Path.{_≡_};
 ghost use Rattle.reader.specs.Read.{verdictAs};
 ghost use Rattle.writer.specs.Write.{writtenAs};
 ghost use Rattle.listing.specs.Listing.{listedAs};
-ghost use Rattle.filed.specs.Files.{fileIn, foundIn, writeIn, listIn};
-use handed::FileRecord;
+ghost use Rattle.filed.specs.Files.{fileIn, writeIn, listIn};
 use listing::Listed;
-use number::Kept;
-use reader::RecordFound;
 use reader::Verdict;
 use writer::Written;
 
@@ -51,27 +48,6 @@ pub fn file_told(verdict: Verdict) -> FileTold
             place,
             count: 0,
         },
-    }
-}
-
-// A record of a file, all zeros where there is none.
-pub fn found_told(found: RecordFound) -> FileRecord
-    ensures { λ r. ⌜ r ≡ foundIn found ⌝ }
-{
-    match found {
-        RecordFound::Found(r) => handed::record_told(r),
-        RecordFound::Nowhere => {
-            let none = Kept { v: 0 };
-            FileRecord {
-                kind: 0,
-                minute: 0,
-                first: none,
-                second: none,
-                third: none,
-                fourth: none,
-                fifth: none,
-            }
-        }
     }
 }
 

@@ -20,6 +20,7 @@ use Rattle.zhitomrak.proofs.zhitomrak_tendency.Reads as tendency
 use Rattle.zhitomrak.proofs.zhitomrak_wind.Reads as wind
 use Rattle.zhitomrak.proofs.zhitomrak_humidity.Reads as humidity
 use Rattle.zhitomrak.proofs.zhitomrak_read.Reads as read
+use Rattle.zhitomrak.proofs.zhitomrak_record.Reads as record-at
 use Rattle.zhitomrak.proofs.zhitomrak_write.Reads as write
 use Rattle.zhitomrak.proofs.zhitomrak_list.Reads as list
 
@@ -62,6 +63,9 @@ single-humidity κs a r r′ s s′ p q = one-told asked.humidity (now (a .0)) (
 
 pub single-read : Single read.Post
 single-read κs a r r′ s s′ p q = p (the-rule .0) (the-rule .1) ∙ sym (q (the-rule .0) (the-rule .1))
+
+pub single-record : Single record-at.Post
+single-record κs a r r′ s s′ p q = p ∙ sym q
 
 pub single-write : Single write.Post
 single-write κs a r r′ s s′ p q = p (the-rule .0) (the-rule .1) .answer ∙ sym (q (the-rule .0) (the-rule .1) .answer)

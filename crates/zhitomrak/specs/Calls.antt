@@ -6,12 +6,13 @@ use Prim.Native.Nat.{ℕ}
 use lib.Dec.{ltb}
 use lib.IntN.{ℤ}
 use lib.ListN.{length}
-use Rattle.number.specs.Refusal.{numberIn}
+use Rattle.number.specs.Refusal.{Answer, Numbered, numberIn}
 use Rattle.settings.specs.Settings.{checked}
 use Rattle.store.specs.Block.{openedBy, hearing, heardBy, outcome}
 use Rattle.station.specs.Questions.{Asked, Reply, question, TellsOf}
 use Rattle.watchfile.specs.Format.{writing}
-use Rattle.watchfile.specs.declared.Record.{Record}
+use Rattle.handed.specs.Words.{recordsIn}
+use Rattle.writer.specs.Write.{offered}
 use Rattle.octets.specs.Lent.{sized, leftBy}
 use Rattle.listing.specs.Listing.{listing}
 use Rattle.told.specs.Told.{heardIn, Told, toldIn}
@@ -50,10 +51,13 @@ pub record AnsweredAs (q : Asked) (s s′ : List ℕ) (m : ℕ) (r : Told q) : T
 
 -- ---- watch files
 
--- The first `count` records were to be written into the buffer `before`, which is `after` then, and r is the answer.
-pub record WroteAs (rule : ℕ → ℤ) (all : List Record) (count : ℕ) (before after : List ℕ) (r : WriteTold) : Type 0 where
-  pub answer : r ≡ writeIn (sized (writing rule all count (length before)))
-  pub bytes : after ≡ leftBy before (writing rule all count (length before))
+-- The records that words hold were to be written into the buffer `before`, which is `after` then, and r is the answer.
+abbrev pub written : (ℕ → ℤ) → List ℕ → List ℕ → Answer Numbered (List ℕ)
+written rule words before = writing rule (offered words) (length (recordsIn words)) (length before)
+
+pub record WroteAs (rule : ℕ → ℤ) (words before after : List ℕ) (r : WriteTold) : Type 0 where
+  pub answer : r ≡ writeIn (sized (written rule words before))
+  pub bytes : after ≡ leftBy before (written rule words before)
 
 -- The listing was to be put into the buffer `before`, which is `after` then, and r is the answer.
 pub record ListedAs (text before after : List ℕ) (r : ListTold) : Type 0 where

@@ -2,26 +2,25 @@
 // Any block, bytes, numbers and room get an answer. A number of a refusal is the documents'; 0 says that nothing was refused, and 255,
 // which is none of theirs, that the block was never opened.
 ghost use mathlib.Core.Path.{_≡_};
-ghost use mathlib.Core.List.{map};
 ghost use Prim.Native.Nat.{ℕ};
 ghost use lib.IntN.{ℤ};
 ghost use Rattle.station.specs.Questions as asked;
 ghost use Rattle.watchfile.specs.Format.{DewRule, reading};
+ghost use Rattle.reader.specs.Read.{counted, recordAt};
 ghost use Rattle.listing.specs.Listing.{listingOf};
 ghost use Rattle.filed.specs.Files.{fileIn};
-ghost use Rattle.handed.specs.Handed.{recordOf};
 ghost use Rattle.zhitomrak.specs.Calls.{OpenedAs, HeardAs, AnsweredAs, WroteAs, ListedAs};
 use block::Store;
 use filed::FileTold;
 use filed::ListTold;
 use filed::WriteTold;
-use handed::FileRecord;
 use told::HearTold;
 use told::HumidityTold;
 use told::PressureTold;
 use told::StoreSettings;
 use told::TendencyTold;
 use told::WindTold;
+use watchfile::Figures;
 
 // ---- opening and hearing
 
@@ -94,10 +93,10 @@ pub extern "C" fn zhitomrak_read(file: &[u8]) -> FileTold
 
 // The record of a good file with this index, counted from 0; of any bytes what stands there. Where there is none it is all zeros.
 #[no_mangle]
-pub extern "C" fn zhitomrak_record(file: &[u8], index: usize) -> FileRecord
-    ensures { λ r. ⌜ r ≡ foundIn (recordAt (now (file .entry)) index) ⌝ }
+pub extern "C" fn zhitomrak_record(file: &[u8], index: usize) -> Figures
+    ensures { λ r. ⌜ r ≡ recordAt (now (file .entry)) index ⌝ }
 {
-    filed::found_told(reader::record_at(file, index))
+    reader::record_at(file, index)
 }
 
 // Writes records, lent as words, as a watch file into the lent buffer; or 16 with the index of the first that breaks the rules (or of
@@ -105,7 +104,7 @@ pub extern "C" fn zhitomrak_record(file: &[u8], index: usize) -> FileRecord
 // rules.
 #[no_mangle]
 pub extern "C" fn zhitomrak_write(buffer: &mut [u8], records: &[u32]) -> WriteTold
-    ensures { λ r. ⌜ ((rule : ℕ → ℤ) → DewRule rule → WroteAs rule (recordsIn (now (records .entry))) (now (buffer .entry)) (now (buffer .exit)) r) ⌝ }
+    ensures { λ r. ⌜ ((rule : ℕ → ℤ) → DewRule rule → WroteAs rule (now (records .entry)) (now (buffer .entry)) (now (buffer .exit)) r) ⌝ }
 {
     filed::write_told(writer::write(buffer, records))
 }
