@@ -5,3 +5,4 @@ pub mod PlaceLaws
 pub mod SingleAnswers
 pub mod FitTheorems
 pub mod PlaceTheorems
+pub mod LaidLaws

@@ -13,7 +13,7 @@ use Rattle.octets.specs.Bytes.{AreBytes}
 use Rattle.octets.specs.Lent.{short}
 use Rattle.watchfile.specs.Format.{blank, recordRight, recordTests, past, rankOf, fileOf, reading, writing}
 use Rattle.watchfile.specs.declared.Record.{Record}
-use Rattle.reader.specs.Read.{verdictAs, counted, places}
+use Rattle.reader.specs.Read.{verdictAs, counted}
 use Rattle.reader.specs.declared.Verdict.{Verdict}
 use Rattle.reader.specs.declared.Verdict.the-variants.{Good, Broken}
 use Rattle.reader.proofs.VerdictLaws.{broken-is, good-is}
@@ -21,19 +21,16 @@ use Rattle.writer.specs.Write.{writtenAs, Wrote}
 use Rattle.writer.specs.declared.Written.{Written}
 use Rattle.writer.proofs.RestLaws.{at}
 use Rattle.writer.proofs.ReadWrittenLaws.{read-right}
+use Rattle.desk.specs.Places.{ReadIn}
 use Rattle.desk.specs.Placing.{inserted, placedAs, writingAll, placing, Leaves, placeOf, pushed}
 use Rattle.desk.specs.declared.Placed.{Placed}
 use Rattle.desk.specs.declared.Placed.the-variants as placed
+use Rattle.desk.proofs.LaidLaws.{same-front, file-records}
 use Rattle.desk.proofs.InsertLaws.{place-most, insert-set, insert-push, push-front, push-length}
 
 module _ (rule : ℕ → ℤ) where
-  -- what is written are the first `count`
-  same-front : (all X : List Record) (count room : ℕ) → take count all ≡ take count X → writing rule all count room ≡ writing rule X count room
-  unfolding writing
-  same-front all X count room e = rw e
-
   pub writes-none : (all : List Record) (room : ℕ) → writing rule all 0 room ≡ writingAll rule room []
-  writes-none all room = same-front all [] 0 room refl
+  writes-none all room = same-front rule all [] 0 room refl
 
   -- the 49th record is refused, be it right or wrong
   one-past : (right : Bool) (i : ℕ) (L L′ : List (Test Numbered)) (a a′ : List ℕ) → i ≡ 48
@@ -75,7 +72,7 @@ module _ (rule : ℕ → ℤ) where
     writes-set l e =
         let is : inserted r rs ≡ set rs here r = insert-set r rs (omega (arith, many)) e in
         let n : length (inserted r rs) ≡ count = ap length is ∙ length-set rs here r ∙ many in
-        same-front (set records here r) (inserted r rs) count room
+        same-front rule (set records here r) (inserted r rs) count room
         (take-set-lt count records here r l ∙ sym is ∙ sym (take-all count (inserted r rs) (omega arith)))
         ∙ ap (λ (k : ℕ). writing rule (inserted r rs) k room) (sym n)
 
@@ -93,7 +90,7 @@ module _ (rule : ℕ → ℤ) where
             let front : take (suc count) (pushed here r records) ≡ pushed here r rs = push-front count here r records (omega (arith, place-most (rankOf r) rs, many)) in
             let less : take (suc count) (take 48 (pushed here r records)) ≡ take (suc count) (pushed here r records) = take-take (suc count) 48 (pushed here r records) (omega arith) in
             let all : take (suc count) (inserted r rs) ≡ inserted r rs = take-all (suc count) (inserted r rs) (omega arith) in
-            same-front (take 48 (pushed here r records)) (inserted r rs) (count + 1) room (rw k (less ∙ front ∙ sym is ∙ sym all))
+            same-front rule (take 48 (pushed here r records)) (inserted r rs) (count + 1) room (rw k (less ∙ front ∙ sym is ∙ sym all))
         go (no z) is n =
             let c : count + 1 ≡ 49 = omega arith in
             let whole : rs ≡ records = take-all count records (omega arith) in
@@ -140,10 +137,16 @@ pub broken-there : (a : Answer ℕ (List Record)) (v : Verdict) (place : ℕ) �
 broken-there a v place e f = broken-is a place (sym e ∙ ap verdictAs f)
 
 pub good-there : (rule : ℕ → ℤ) (s : List ℕ) → AreBytes s → (v : Verdict) (records : List Record) (count : ℕ)
-    → verdictAs v ≡ counted (reading rule s) → records ≡ places (reading rule s) → v ≡ Good count → (count ≤ 48) × (reading rule s ≡ given (take count records))
-good-there rule s are v records count e w f =
-    let good = good-is (reading rule s) count records (sym e ∙ ap verdictAs f) w in
-    (omega (arith, good .1, read-right rule s (take count records) are (good .0) .few), good .0)
+    → verdictAs v ≡ counted (reading rule s) → v ≡ Good count → ReadIn s 48 records → reading rule s ≡ given (take count records)
+good-there rule s are v records count e f at =
+    let good = good-is (reading rule s) count (sym e ∙ ap verdictAs f) in
+    let few = read-right rule s (good .0) are (good .1) .few in
+    good .1 ∙ ap given (sym (ap (λ (n : ℕ). take n records) (sym (good .2)) ∙ file-records rule s (good .0) records are (good .1) few at))
+
+pub good-few : (rule : ℕ → ℤ) (s : List ℕ) → AreBytes s → (v : Verdict) (count : ℕ) → verdictAs v ≡ counted (reading rule s) → v ≡ Good count → count ≤ 48
+good-few rule s are v count e f =
+    let good = good-is (reading rule s) count (sym e ∙ ap verdictAs f) in
+    omega (arith, good .2, read-right rule s (good .0) are (good .1) .few)
 
 -- ---- what placing answers and leaves
 

@@ -4,10 +4,14 @@ ghost use mathlib.Core.List.{[]};
 ghost use Prim.Native.Nat.{ℕ, _+_, _-_, _^_, _≤_, _<_, min};
 ghost use lib.IntN.{ℤ};
 ghost use lib.ListN.{length, take};
-ghost use Rattle.watchfile.specs.Format.{DewRule, rankOf};
-ghost use Rattle.writer.specs.Write.{writtenAs};
+ghost use lib.Seq.{sets};
+ghost use Rattle.watchfile.specs.Format.{DewRule, rankOf, figuresOf};
+ghost use Rattle.handed.specs.Handed.{recordOf};
+ghost use Rattle.handed.specs.Words.{figuresIn, wordsOf};
+ghost use Rattle.writer.specs.Write.{writtenAs, Wrote};
 ghost use Rattle.desk.specs.Entries.{pressureEntry, tendencyEntry, windEntry, humidityEntry};
 ghost use Rattle.desk.specs.Placing.{inserted, placedAs, writingAll, placing, Leaves, placeOf, pushed};
+ghost use Rattle.desk.specs.Places.{Laid, ReadIn};
 ghost use Rattle.desk.specs.Counting.{messages, HearsAll};
 use block::Store;
 use number::Number;
@@ -194,6 +198,48 @@ pub fn humidity_record(minute: u32, r: HumidityAnswer) -> Entry
     }
 }
 
+// ---- records written
+
+// Words enough for the records that a file can have, and one more.
+const ROOM: usize = 7 * (RECORDS + 1);
+
+// Lays the seven words of a record at a place.
+fn lay(words: &mut [u32], at: usize, r: Record)
+    requires { ⌜ at + 7 ≤ length (now words) ⌝ }
+    ensures { λ _. ⌜ (now (words .exit) ≡ sets (now (words .entry)) at (wordsOf (figuresOf r))) × (recordOf (figuresIn (wordsOf (figuresOf r))) ≡ r) ⌝ }
+{
+    let seven = handed::words(r);
+    words[at] = seven[0];
+    words[at + 1] = seven[1];
+    words[at + 2] = seven[2];
+    words[at + 3] = seven[3];
+    words[at + 4] = seven[4];
+    words[at + 5] = seven[5];
+    words[at + 6] = seven[6];
+}
+
+// The words of 48 records, and of one behind them that is none.
+fn words_of(records: [Record; RECORDS]) -> [u32; ROOM]
+    ensures { λ w. ⌜ Laid records 48 w ⌝ }
+{
+    let mut words = [0u32; ROOM];
+    let mut i: usize = 0;
+    while i < RECORDS {
+        lay(&mut words, 7 * i, records[i]);
+        i += 1;
+    }
+    words
+}
+
+// Writes the first `count` records as a watch file into the lent buffer, or gives refusal 16 or 17 and leaves every byte.
+pub fn write(file: &mut [u8], records: [Record; RECORDS], count: usize) -> Written
+    ensures { λ w. ⌜ ((rule : ℕ → ℤ) → DewRule rule → Wrote rule records count (now (file .entry)) (now (file .exit)) w) ⌝ }
+{
+    let words = words_of(records);
+    let end = 7 * smaller(count, RECORDS + 1);
+    writer::write(file, &words[..end])
+}
+
 // ---- a record put in its place
 
 // What placing a record comes to.
@@ -268,10 +314,24 @@ fn write_with(file: &mut [u8], records: [Record; RECORDS], count: usize, r: Reco
         if rank_of(records[at]) == rank {
             let mut all = records;
             all[at] = r;
-            return written(writer::write(file, all, count));
+            return written(write(file, all, count));
         }
     }
-    written(writer::write(file, pushed(records, at, r), count + 1))
+    written(write(file, pushed(records, at, r), count + 1))
+}
+
+// The records of a file, each in its place; behind the last what stands for none.
+fn records_in(file: &[u8]) -> [Record; RECORDS]
+    ensures { λ r. ⌜ ReadIn (now (file .entry)) 48 r ⌝ }
+{
+    let mut records = [BLANK; RECORDS];
+    let mut i: usize = 0;
+    while i < RECORDS {
+        let record = handed::record_of(reader::record_at(file, i));
+        records[i] = record;
+        i += 1;
+    }
+    records
 }
 
 // Puts a record in its place in the watch file that the first `size` bytes of the buffer are (all of them, where there are fewer);
@@ -280,12 +340,12 @@ pub fn place(file: &mut [u8], size: usize, r: Record) -> Placed
     ensures { λ p. ⌜ ((rule : ℕ → ℤ) → DewRule rule → Leaves (placing rule r size (now (file .entry))) (now (file .entry)) (now (file .exit)) p) ⌝ }
 {
     let end = smaller(size, file.len());
-    let told = reader::read(&file[..end]);
-    let verdict = told.verdict;
-    let records = told.records;
-    match verdict {
+    match reader::read(&file[..end]) {
         Verdict::Broken(at) => Placed::Broken(at),
-        Verdict::Good(count) => write_with(file, records, count, r),
+        Verdict::Good(count) => {
+            let records = records_in(&file[..end]);
+            write_with(file, records, count, r)
+        }
     }
 }
 
@@ -293,5 +353,5 @@ pub fn place(file: &mut [u8], size: usize, r: Record) -> Placed
 pub fn empty(file: &mut [u8]) -> Placed
     ensures { λ p. ⌜ ((rule : ℕ → ℤ) → DewRule rule → Leaves (writingAll rule (length (now (file .entry))) []) (now (file .entry)) (now (file .exit)) p) ⌝ }
 {
-    written(writer::write(file, [BLANK; RECORDS], 0))
+    written(write(file, [BLANK; RECORDS], 0))
 }

@@ -1,19 +1,33 @@
--- What is written of records that are handed over. Assumes nothing.
+-- What is made of records that are handed over. Assumes nothing.
 use mathlib.Core.Path.{_≡_, refl}
-use mathlib.Core.Bool.{false}
-use mathlib.Core.List.{List}
-use Prim.Native.Nat.{ℕ}
-use lib.IntN.{ℤ}
-use lib.ListN.{take}
+use mathlib.Core.Bool.{true, false}
+use Prim.Native.Nat.{ℕ, _<_}
+use native.Mathlib.Omega.{arith}
+use lib.IntN.{ℤ, pos}
+use borrow.Author.Tests.{le-leb}
 use Rattle.watchfile.specs.Rules.{pressureRight}
-use Rattle.watchfile.specs.Format.{bodyRight, writing}
+use Rattle.watchfile.specs.Format.{bodyFigures, figuresOf, bodyRight}
+use Rattle.watchfile.specs.declared.Body.{Body}
+use Rattle.watchfile.specs.declared.Body.the-variants.{Pressure, Tendency, Wind, Humidity}
 use Rattle.watchfile.specs.declared.Record.{Record}
-use Rattle.handed.specs.Handed.{misfit}
+use Rattle.watchfile.proofs.SmallLaws.{Small}
+use Rattle.handed.specs.Handed.{half, octet, misfit, recordOf}
 
--- a write looks at no record behind the first `count`
-pub writing-by : (rule : ℕ → ℤ) (all all′ : List Record) (count room : ℕ) → take count all ≡ take count all′ → writing rule all count room ≡ writing rule all′ count room
-unfolding writing
-writing-by rule all all′ count room e = rw e
+half-whole : (n : ℕ) → n < 65536 → half (pos n) ≡ true
+half-whole n h = rw (le-leb 0 n (omega arith), le-leb n 65535 (omega arith))
+
+octet-whole : (n : ℕ) → n < 256 → octet (pos n) ≡ true
+octet-whole n h = rw (le-leb 0 n (omega arith), le-leb n 255 (omega arith))
+
+body-back : (m : ℕ) (b : Body) → Small b → recordOf (bodyFigures m b) ≡ record { minute = m; body = b }
+body-back m (Pressure p) h = rw (half-whole p h)
+body-back m (Tendency change absent) h = rw (octet-whole absent (h .1))
+body-back m (Wind speed direction) h = rw (half-whole speed (h .0), half-whole direction (h .1))
+body-back m (Humidity e saturation deficit relative dew) h = rw (half-whole e (h .0), half-whole saturation (h .1), half-whole deficit (h .2), octet-whole relative (h .3))
+
+-- a record whose fields are small comes back from its figures
+pub of-figures : (r : Record) → Small (r .body) → recordOf (figuresOf r) ≡ r
+of-figures r h = body-back (r .minute) (r .body) h
 
 -- what does not fit its bytes, or is of no kind, breaks the file rules
 pub misfit-refused : (rule : ℕ → ℤ) → bodyRight rule misfit ≡ false

@@ -2,6 +2,7 @@
 use mathlib.Core.Path.{sym, _∙_}
 use Rattle.number.specs.Single.{Single}
 use Rattle.handed.proofs.record_of.Reads as record-of
+use Rattle.handed.proofs.words.Reads as words
 use Rattle.handed.proofs.count.Reads as count
 use Rattle.handed.proofs.record_at.Reads as record-at
 
@@ -13,3 +14,6 @@ single-count κs a r r′ s s′ p q = p ∙ sym q
 
 pub single-record-at : Single record-at.Post
 single-record-at κs a r r′ s s′ p q = p ∙ sym q
+
+pub single-words : Single words.Post
+single-words κs a r r′ s s′ p q = p .exact ∙ sym (q .exact)

@@ -1,18 +1,22 @@
 -- Records lent as words: how many there are, and each at its place. Assumes nothing.
 use mathlib.Core.Path.{_≡_, refl, sym, ap, _∙_}
-use mathlib.Core.List.{List}
-use Prim.Native.Nat.{ℕ, zero, suc, _+_, _-_, _≤_, _<_}
+use mathlib.Core.Bool.{true}
+use mathlib.Core.List.{List, [], _∷_}
+use Prim.Native.Nat.{ℕ, zero, suc, _+_, _-_, _%_, _≤_, _<_}
 use native.Mathlib.Omega.{arith}
 use native.Mathlib.Nat.{not-suc-le-zero}
-use lib.IntN.{subℕ}
+use lib.IntN.{ℤ, pos, negsuc, natAbs, subℕ}
 use lib.ListN.{length, getD, take, drop, length-drop}
 use lib.Seq.{take-all}
 use mir.Syntax.{w32}
 use mir.Val.{SFits}
-use borrow.Author.Tests.{lt-ltb}
+use borrow.Author.Tests.{lt-ltb, le-ltb, le-leb}
 use Rattle.watchfile.specs.Format.{blank}
+use Rattle.number.specs.declared.Kept.{Kept}
+use Rattle.watchfile.specs.declared.Body.the-variants.{Pressure, Tendency, Wind, Humidity}
 use Rattle.watchfile.specs.declared.Record.{Record}
-use Rattle.handed.specs.Words.{held, recordAt, recordsFrom, recordsIn}
+use Rattle.handed.specs.Handed.{half, octet}
+use Rattle.handed.specs.Words.{signed32, wordOf, AreWords, held, recordAt, recordsFrom, recordsIn}
 
 length-from : (w : List ℕ) (i n : ℕ) → length (recordsFrom w i n) ≡ n
 unfolding recordsFrom
@@ -47,3 +51,70 @@ length-part w at = ap length (part-all w at) ∙ length-drop at w
 
 pub word-fits : (w : ℕ) → 2147483648 ≤ w → w < 4294967296 → SFits w32 (subℕ w 4294967296)
 word-fits w l h = rw (lt-ltb w 4294967296 h) (record { sfits = omega arith })
+
+-- ---- a number with a sign there and back
+
+negative : (n m : ℕ) → n + suc m ≡ 4294967296 → 2147483648 ≤ n → signed32 n ≡ negsuc m
+negative n m e h =
+    let z : 4294967296 - suc n ≡ m = omega arith in
+    rw (le-ltb n 2147483648 h, lt-ltb n 4294967296 (omega arith), z)
+
+pub word-back : (z : ℤ) → SFits w32 z → signed32 (wordOf z) ≡ z
+word-back (pos m) f =
+    let h : m < 2147483648 = f .sfits in
+    let e : (m + 4294967296) % 4294967296 ≡ m = omega arith in
+    rw (e, lt-ltb m 2147483648 h)
+word-back (negsuc m) f =
+    let h : m < 2147483648 = f .sfits in
+    let g : (4294967296 - suc m) % 4294967296 ≡ 4294967295 - m = omega arith in
+    let e : wordOf (negsuc m) ≡ 4294967295 - m = rw (le-ltb 4294967296 (suc m) (omega arith)) g in
+    ap signed32 e ∙ negative (4294967295 - m) m (omega arith) (omega arith)
+
+-- and one without
+pub word-whole : (n : ℕ) → n < 2147483648 → (wordOf (pos n) ≡ n) × (signed32 n ≡ pos n)
+word-whole n h = (omega arith, rw (lt-ltb n 2147483648 h))
+
+-- ---- bodies there and back: what fits its bytes
+
+pub half-fits : (n : ℕ) → n < 65536 → half (signed32 n) ≡ true
+half-fits n h = rw (lt-ltb n 2147483648 (omega arith), le-leb 0 n (omega arith), le-leb n 65535 (omega arith))
+
+pub octet-fits : (n : ℕ) → n < 256 → octet (signed32 n) ≡ true
+octet-fits n h = rw (lt-ltb n 2147483648 (omega arith), le-leb 0 n (omega arith), le-leb n 255 (omega arith))
+
+pub whole-size : (n : ℕ) → n < 2147483648 → natAbs (signed32 n) ≡ n
+whole-size n h = rw (lt-ltb n 2147483648 h)
+
+pub pressure-are : (m p : ℕ) → p < 65536 → AreWords (Pressure p) m (1 ∷ m ∷ p ∷ 0 ∷ 0 ∷ 0 ∷ 0 ∷ [])
+pressure-are m p h =
+    record {
+      exact = ap (λ (k : ℕ). 1 ∷ m ∷ k ∷ 0 ∷ 0 ∷ 0 ∷ 0 ∷ []) (sym (word-whole p (omega arith) .0));
+      back = rw (half-fits p h, whole-size p (omega arith));
+    }
+
+pub tendency-are : (m : ℕ) (change : Kept) (w absent : ℕ) → w ≡ wordOf (change .v) → signed32 w ≡ change .v → absent < 256
+    → AreWords (Tendency change absent) m (2 ∷ m ∷ w ∷ absent ∷ 0 ∷ 0 ∷ 0 ∷ [])
+tendency-are m change w absent e s h =
+    record {
+      exact = ap (λ (k : ℕ). 2 ∷ m ∷ k ∷ absent ∷ 0 ∷ 0 ∷ 0 ∷ []) e ∙ ap (λ (k : ℕ). 2 ∷ m ∷ wordOf (change .v) ∷ k ∷ 0 ∷ 0 ∷ 0 ∷ []) (sym (word-whole absent (omega arith) .0));
+      back = rw (s, octet-fits absent h, whole-size absent (omega arith));
+    }
+
+pub wind-are : (m v d : ℕ) → v < 65536 → d < 65536 → AreWords (Wind v d) m (3 ∷ m ∷ v ∷ d ∷ 0 ∷ 0 ∷ 0 ∷ [])
+wind-are m v d hv hd =
+    record {
+      exact = ap (λ (k : ℕ). 3 ∷ m ∷ k ∷ d ∷ 0 ∷ 0 ∷ 0 ∷ []) (sym (word-whole v (omega arith) .0)) ∙ ap (λ (k : ℕ). 3 ∷ m ∷ wordOf (pos v) ∷ k ∷ 0 ∷ 0 ∷ 0 ∷ []) (sym (word-whole d (omega arith) .0));
+      back = rw (half-fits v hv, half-fits d hd, whole-size v (omega arith), whole-size d (omega arith));
+    }
+
+pub humidity-are : (m a b c d w : ℕ) (dew : Kept) → a < 65536 → b < 65536 → c < 65536 → d < 256 → w ≡ wordOf (dew .v) → signed32 w ≡ dew .v
+    → AreWords (Humidity a b c d dew) m (4 ∷ m ∷ a ∷ b ∷ c ∷ d ∷ w ∷ [])
+humidity-are m a b c d w dew ha hb hc hd e s =
+    record {
+      exact = same (sym (word-whole a (omega arith) .0)) (sym (word-whole b (omega arith) .0)) (sym (word-whole c (omega arith) .0)) (sym (word-whole d (omega arith) .0)) e;
+      back = rw (half-fits a ha, half-fits b hb, half-fits c hc, octet-fits d hd, whole-size a (omega arith), whole-size b (omega arith), whole-size c (omega arith), whole-size d (omega arith), s);
+    }
+  where
+    same : {a′ b′ c′ d′ w′ : ℕ} → a ≡ a′ → b ≡ b′ → c ≡ c′ → d ≡ d′ → w ≡ w′
+        → _≡_ {A = List ℕ} (4 ∷ m ∷ a ∷ b ∷ c ∷ d ∷ w ∷ []) (4 ∷ m ∷ a′ ∷ b′ ∷ c′ ∷ d′ ∷ w′ ∷ [])
+    same p q r t u = rw (p, q, r, t, u)

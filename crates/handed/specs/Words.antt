@@ -1,11 +1,13 @@
 -- Records lent as words of 32 bits, seven a record: kind, minute, and five figures with their sign (two's complement).
+use mathlib.Core.Path.{_≡_}
 use mathlib.Core.Bool.{cond}
 use mathlib.Core.List.{List, [], _∷_}
-use Prim.Native.Nat.{ℕ, zero, suc, _*_, _/_}
+use Prim.Native.Nat.{ℕ, zero, suc, _*_, _/_, _%_}
 use lib.Dec.{ltb}
-use lib.IntN.{ℤ, pos, _-ℤ_}
+use lib.IntN.{ℤ, pos, natAbs, _+ℤ_, _-ℤ_}
 use lib.ListN.{length, getD, drop}
-use Rattle.watchfile.specs.Format.{blank, figures}
+use Rattle.watchfile.specs.Format.{blank, figures, bodyFigures}
+use Rattle.watchfile.specs.declared.Body.{Body}
 use Rattle.watchfile.specs.declared.Figures.{Figures}
 use Rattle.watchfile.specs.declared.Record.{Record}
 use Rattle.handed.specs.Handed.{recordOf}
@@ -13,6 +15,10 @@ use Rattle.handed.specs.Handed.{recordOf}
 -- The number with a sign that a word holds.
 abbrev pub signed32 : ℕ → ℤ
 signed32 w = cond (ltb w 2147483648) (pos w) (pos w -ℤ pos 4294967296)
+
+-- And the word of a number.
+abbrev pub wordOf : ℤ → ℕ
+wordOf z = natAbs (z +ℤ pos 4294967296) % 4294967296
 
 -- The figures at the start of words.
 abbrev pub figuresIn : List ℕ → Figures
@@ -32,3 +38,13 @@ recordsFrom w i (suc n) = recordAt w i ∷ recordsFrom w (suc i) n
 
 abbrev pub recordsIn : List ℕ → List Record
 recordsIn w = recordsFrom w 0 (held w)
+
+-- The words of a record.
+abbrev pub wordsOf : Figures → List ℕ
+wordsOf f =
+    f .kind ∷ f .minute ∷ wordOf (f .first .v) ∷ wordOf (f .second .v) ∷ wordOf (f .third .v) ∷ wordOf (f .fourth .v) ∷ wordOf (f .fifth .v) ∷ []
+
+-- w are the words of a record, and it comes back from them.
+pub record AreWords (b : Body) (minute : ℕ) (w : List ℕ) : Type 0 where
+  pub exact : w ≡ wordsOf (bodyFigures minute b)
+  pub back : recordAt w 0 ≡ record { minute = minute; body = b }

@@ -6,7 +6,7 @@ ghost use Prim.Native.Nat.{_≤_};
 ghost use lib.IntN.{natAbs};
 ghost use lib.ListN.{length};
 ghost use Rattle.handed.specs.Handed.{half, octet, pressureBody, tendencyBody, windBody, humidityBody, bodyOf, recordOf};
-ghost use Rattle.handed.specs.Words.{signed32, figuresIn, recordAt, recordsIn};
+ghost use Rattle.handed.specs.Words.{signed32, wordOf, AreWords, figuresIn, recordAt, recordsIn};
 use number::Kept;
 use number::Number;
 use watchfile::BLANK;
@@ -172,6 +172,80 @@ fn figures_in(row: &[u32]) -> Figures
         fifth: figure_in(row[6]),
     }
 }
+
+// ---- a record as words
+
+// The word that holds a number with a sign.
+fn word_of(figure: Kept) -> u32
+    ensures { λ r. ⌜ (r ≡ wordOf (figure .v)) × (signed32 r ≡ figure .v) ⌝ }
+{
+    let wide = figure.v as i64;
+    let n = Number { v: wide };
+    let size = n.plus(Number { v: 4294967296 }).size();
+    (size % 4294967296) as u32
+}
+
+fn pressure_words(minute: u32, pressure: u16) -> [u32; WORDS]
+    ensures { λ w. ⌜ AreWords (Body.Pressure pressure) minute w ⌝ }
+{
+    [1, minute, pressure as u32, 0, 0, 0, 0]
+}
+
+fn tendency_words(minute: u32, change: Kept, absent: u8) -> [u32; WORDS]
+    ensures { λ w. ⌜ AreWords (Body.Tendency change absent) minute w ⌝ }
+{
+    let first = word_of(change);
+    [2, minute, first, absent as u32, 0, 0, 0]
+}
+
+fn wind_words(minute: u32, speed: u16, direction: u16) -> [u32; WORDS]
+    ensures { λ w. ⌜ AreWords (Body.Wind speed direction) minute w ⌝ }
+{
+    [3, minute, speed as u32, direction as u32, 0, 0, 0]
+}
+
+fn humidity_words(
+    minute: u32,
+    e: u16,
+    saturation: u16,
+    deficit: u16,
+    relative: u8,
+    dew: Kept,
+) -> [u32; WORDS]
+    ensures { λ w. ⌜ AreWords (Body.Humidity e saturation deficit relative dew) minute w ⌝ }
+{
+    let fifth = word_of(dew);
+    [
+        4,
+        minute,
+        e as u32,
+        saturation as u32,
+        deficit as u32,
+        relative as u32,
+        fifth,
+    ]
+}
+
+// The words of a record, from which it comes back.
+pub fn words(r: Record) -> [u32; WORDS]
+    ensures { λ w. ⌜ AreWords (r .body) (r .minute) w ⌝ }
+{
+    let body = r.body;
+    match body {
+        Body::Pressure(pressure) => pressure_words(r.minute, pressure),
+        Body::Tendency { change, absent } => tendency_words(r.minute, change, absent),
+        Body::Wind { speed, direction } => wind_words(r.minute, speed, direction),
+        Body::Humidity {
+            e,
+            saturation,
+            deficit,
+            relative,
+            dew,
+        } => humidity_words(r.minute, e, saturation, deficit, relative, dew),
+    }
+}
+
+// ---- words as records
 
 // How many records words hold; of what is left behind the last, none is made.
 pub fn count(words: &[u32]) -> usize

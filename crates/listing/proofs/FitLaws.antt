@@ -21,29 +21,11 @@ use Rattle.watchfile.specs.declared.Body.{Body}
 use Rattle.watchfile.specs.declared.Body.the-variants.{Pressure, Tendency, Wind, Humidity}
 use Rattle.watchfile.specs.declared.Record.{Record}
 use Rattle.watchfile.proofs.FieldLaws.{given-passed}
+use Rattle.watchfile.proofs.SmallLaws.{Small, small-body}
 use Rattle.listing.specs.Listing.{letter, bodyText, recordLine, recordLines, headLine, listingOf, LINE, TEXT}
 use Rattle.listing.proofs.PlaceLaws.{place-inside}
 
 -- ---- a line fits
-
--- each number of a body fits its place in the longest line
-abbrev Small : Body → Type 0
-Small (Pressure p) = p < 65536
-Small (Tendency change absent) = (natAbs (change .v) ≤ 32768) × (absent < 256)
-Small (Wind speed direction) = (speed < 65536) × (direction < 65536)
-Small (Humidity e saturation deficit relative dew) =
-    (e < 65536) × (saturation < 65536) × (deficit < 65536) × (relative < 256) × (natAbs (dew .v) ≤ 32768)
-
-small-either : (t : Bool) (x y : Body) → Small x → Small y → Small (cond t x y)
-small-either true x y p q = p
-small-either false x y p q = q
-
-small-body : (kind : ℕ) (s : List ℕ) → AreBytes s → Small (bodyOf kind s)
-small-body kind s b =
-    small-either (eqb kind 1) _ _ (le16-small s 0 b)
-    (small-either (eqb kind 2) _ _ (signed16-small (le16 s 0) (le16-small s 0 b), b 2)
-    (small-either (eqb kind 3) _ _ (le16-small s 0 b, le16-small s 2 b)
-    (le16-small s 0 b, le16-small s 2 b, le16-small s 4 b, b 6, signed16-small (le16 s 7) (le16-small s 7 b))))
 
 body-fits : (b : Body) → Small b → length (bodyText b) ≤ 34
 body-fits (Pressure p) h = omega (arith, decimal-length 4 p (omega arith))
