@@ -2,51 +2,63 @@
 use mathlib.Core.Path.{_≡_, refl, sym, ap, subst, _∙_}
 use mathlib.Core.Bool.{Bool, true, false, cond}
 use mathlib.Core.List.{List, [], _∷_, _++_}
-use Prim.Native.Nat.{ℕ, _≤_}
+use Prim.Native.Nat.{ℕ, _≤_, _<_}
 use native.Mathlib.Omega.{arith}
 use denote.Ref.{now}
 use lib.Dec.{ltb}
 use lib.IntN.{ℤ}
-use lib.ListN.{length, take, drop, length-take}
-use lib.Seq.{take-append-seam}
+use lib.ListN.{length, take, drop, getD}
+use lib.Seq.{take-all, take-append-seam}
 use Rattle.number.specs.Refusal.{numbered, Answer, refused, given, answer}
 use Rattle.number.proofs.Sizes.{impossible}
 use Rattle.octets.specs.Bytes.{AreBytes}
 use Rattle.octets.specs.Lent.{sized, leftBy}
+use Rattle.octets.proofs.ByteLaws.{bytes-drop}
 use Rattle.octets.proofs.LentLaws.{given-lays}
-use Rattle.watchfile.specs.Format.{DewRule, reading, writing}
+use Rattle.watchfile.specs.Format.{DewRule, blank, figuresOf, reading, writing}
 use Rattle.watchfile.specs.declared.Record.{Record}
 use Rattle.watchfile.proofs.DewRules.{the-rule}
-use Rattle.reader.specs.Read.{HandsBack}
-use Rattle.reader.specs.declared.FileRead.{FileRead}
+use Rattle.watchfile.specs.declared.Figures.{Figures}
+use Rattle.watchfile.proofs.SmallLaws.{Small, small-body}
+use Rattle.reader.specs.Read.{verdictAs, counted, kindAt, offsetAt, recordAt}
+use Rattle.reader.specs.declared.Verdict.{Verdict}
 use Rattle.reader.specs.declared.Verdict.the-variants.{Good}
-use Rattle.reader.proofs.VerdictLaws.{verdict-by}
-use Rattle.writer.specs.Write.{Wrote, writtenAs}
+use Rattle.reader.proofs.VerdictLaws.{verdict-by, good-is}
+use Rattle.reader.proofs.RecordLaws.{at-row, good-record}
+use Rattle.handed.specs.Words.{wordsOf, held, recordsIn}
+use Rattle.handed.specs.Words as handed
+use Rattle.handed.proofs.WordLaws.{length-records, records-at, same-entries, held-there}
+use Rattle.writer.specs.Write.{WroteWords, offered, writtenAs}
 use Rattle.writer.specs.declared.Written.{Written}
 use Rattle.writer.specs.declared.Written.the-variants.{Done}
-use Rattle.writer.proofs.RoundTrips.{read-then-written, written-then-read}
+use Rattle.writer.proofs.RoundTrips.{few-written, read-then-written, written-then-read}
+use Rattle.writer.proofs.ReadWrittenLaws.{read-right}
 use Rattle.writer.proofs.SingleAnswers.{case-of, case-back}
 use Rattle.listing.specs.Listing.{listingOf, listing, Lists}
 use Rattle.listing.specs.declared.Listed.{Listed}
 use Rattle.listing.specs.declared.Listed.the-variants.{Text}
-use Rattle.demands.specs.Working.{ReadsFile, WritesFile, ListsFile}
+use Rattle.demands.specs.Working.{ReadsFile, ReadsRecord, HandedOn, WritesFile, ListsFile}
 
 -- ---- single calls
 
-pub read-is : (s : List ℕ) (x : FileRead) → ReadsFile s x → (rule : ℕ → ℤ) → DewRule rule → HandsBack (reading rule s) x
+pub read-is : (s : List ℕ) (x : Verdict) → ReadsFile s x → (rule : ℕ → ℤ) → DewRule rule → verdictAs x ≡ counted (reading rule s)
 read-is s x w rule ruled =
     let which = w .5 in
-    subst (HandsBack (reading rule s)) (which .1) (subst (λ (b : List ℕ). HandsBack (reading rule b) (w .2)) (which .0) (w .4 rule ruled))
+    ap verdictAs (sym (which .1)) ∙ w .4 rule ruled ∙ ap (λ (b : List ℕ). counted (reading rule b)) (which .0)
 
-pub write-is : (all : List Record) (count : ℕ) (before : List ℕ) (x : Written) (after : List ℕ) → WritesFile all count before x after
-    → (rule : ℕ → ℤ) → DewRule rule → Wrote rule all count before after x
-write-is all count before x after w rule ruled =
+record-is : (s : List ℕ) (i : ℕ) (f : Figures) → ReadsRecord s i f → f ≡ recordAt s i
+record-is s i f w =
     let which = w .5 in
-    subst (λ (b : List ℕ). Wrote rule all count before b x) (which .4)
-    (subst (λ (y : Written). Wrote rule all count before (w .3 .0 .now) y) (which .3)
-    (subst (λ (n : ℕ). Wrote rule all n before (w .3 .0 .now) (w .2)) (which .2)
-    (subst (λ (rs : List Record). Wrote rule rs (w .1 .1 .1 .0) before (w .3 .0 .now) (w .2)) (which .1)
-    (subst (λ (b : List ℕ). Wrote rule (w .1 .1 .0) (w .1 .1 .1 .0) b (w .3 .0 .now) (w .2)) (which .0) (w .4 rule ruled)))))
+    sym (which .2) ∙ w .4 ∙ ap (λ (b : List ℕ). recordAt b (w .1 .1 .0)) (which .0) ∙ ap (recordAt s) (which .1)
+
+pub write-is : (words before : List ℕ) (x : Written) (after : List ℕ) → WritesFile words before x after
+    → (rule : ℕ → ℤ) → DewRule rule → WroteWords rule words before after x
+write-is words before x after w rule ruled =
+    let which = w .5 in
+    subst (λ (b : List ℕ). WroteWords rule words before b x) (which .3)
+    (subst (λ (y : Written). WroteWords rule words before (w .3 .0 .now) y) (which .2)
+    (subst (λ (v : List ℕ). WroteWords rule v before (w .3 .0 .now) (w .2)) (which .1)
+    (subst (λ (b : List ℕ). WroteWords rule (now (w .1 .1 .0)) b (w .3 .0 .now) (w .2)) (which .0) (w .4 rule ruled))))
 
 pub list-is : (s before : List ℕ) (l : Listed) (after : List ℕ) → ListsFile s before l after
     → (rule : ℕ → ℤ) → DewRule rule → Lists (listingOf (reading rule s)) before after l
@@ -58,20 +70,6 @@ list-is s before l after w rule ruled =
     (subst (λ (f : List ℕ). Lists (listingOf (reading rule f)) (now (w .1 .1 .0)) (w .3 .1 .0 .now) (w .2)) (which .0) (w .4 rule ruled))))
 
 -- ---- what they come to
-
--- a file that is good has records
-record Found (a : Answer ℕ (List Record)) (x : FileRead) (count : ℕ) : Type 0 where
-  records : List Record
-  is : a ≡ given records
-  many : count ≡ length records
-  same : take count (x .records) ≡ records
-
-found : (a : Answer ℕ (List Record)) (x : FileRead) (count : ℕ) → HandsBack a x → x .verdict ≡ Good count → Found a x count
-found (refused place) x count h e = (let v = h .verdict in impossible (cc))
-found (given rs) x count h e =
-    let v = h .verdict in
-    let n : count ≡ length rs = cc in
-    record { records = rs; is = refl; many = n; same = ap (λ (k : ℕ). take k (x .records)) n ∙ ap (take (length rs)) (h .records) ∙ take-append-seam rs _ }
 
 pub done : (x : Written) (n : ℕ) → writtenAs x ≡ given n → x ≡ Done n
 done x n e = sym (case-back x) ∙ ap case-of e ∙ case-back (Done n)
@@ -87,35 +85,57 @@ given-text text room file e = go (ltb room (length text)) e
 
 -- ---- "A good watch file read and written again has the same bytes"
 
-pub file-again : (s : List ℕ) → AreBytes s → (x : FileRead) (count : ℕ) → ReadsFile s x → x .verdict ≡ Good count
-    → (before after : List ℕ) (y : Written) → length s ≤ length before → WritesFile (x .records) count before y after
+-- words that hold a file's records as they were read hold its records
+handed-on : (rule : ℕ → ℤ) (s : List ℕ) (rs : List Record) (words : List ℕ) → AreBytes s → reading rule s ≡ given rs → HandedOn s (length rs) words → recordsIn words ≡ rs
+handed-on rule s rs words are good on =
+    let many : held words ≡ length rs = rw (on .long) (omega arith) in
+    let n : length (recordsIn words) ≡ length rs = length-records words ∙ many in
+    same-entries (recordsIn words) rs n (λ k h. records-at words k h ∙ each k (omega (arith, h, n)) (omega (arith, h, n, many)))
+  where
+    each : (k : ℕ) → k < length rs → k < held words → handed.recordAt words k ≡ getD rs k blank
+    each k h l =
+        let at = on .each k h in
+        let t = at-row rule s rs good k h in
+        let small = subst (λ (x : Record). Small (x .body)) (t .is) (small-body (kindAt s k) (drop (offsetAt s k) s) (bytes-drop s (offsetAt s k) are)) in
+        let same : at .0 ≡ figuresOf (getD rs k blank) = record-is s k (at .0) (at .1) ∙ good-record rule s rs good k h in
+        held-there words k (getD rs k blank) l small (at .2 ∙ ap wordsOf same)
+
+pub file-again : (s : List ℕ) → AreBytes s → (count : ℕ) → ReadsFile s (Good count) → (words : List ℕ) → HandedOn s count words
+    → (before after : List ℕ) (y : Written) → length s ≤ length before → WritesFile words before y after
     → (y ≡ Done (length s)) × (take (length s) after ≡ s)
-file-again s are x count r good before after y room w =
+file-again s are count r words on before after y room w =
     let rule = the-rule .0 in
-    let f = found (reading rule s) x count (read-is s x r rule (the-rule .1)) good in
-    let out : writing rule (x .records) count (length before) ≡ given s =
-    ap (λ (n : ℕ). writing rule (x .records) n (length before)) (f .many)
-    ∙ read-then-written rule s (f .records) are (f .is) (x .records) (length before) (ap (λ (n : ℕ). take n (x .records)) (sym (f .many)) ∙ f .same) room in
-    let wrote = write-is (x .records) count before y after w rule (the-rule .1) in
+    let good = good-is (reading rule s) count (sym (read-is s (Good count) r rule (the-rule .1))) in
+    let rs = good .0 in
+    let held = handed-on rule s rs words are (good .1) (subst (λ (n : ℕ). HandedOn s n words) (sym (good .2)) on) in
+    let few = read-right rule s rs are (good .1) .few in
+    let first : take (length rs) (take 48 rs) ≡ rs = ap (take (length rs)) (take-all 48 rs few) ∙ take-all (length rs) rs (omega arith) in
+    let out : writing rule (offered words) (length (recordsIn words)) (length before) ≡ given s =
+    ap (λ (l : List Record). writing rule (take 48 l) (length l) (length before)) held ∙ read-then-written rule s rs are (good .1) (take 48 rs) (length before) first room in
+    let wrote = write-is words before y after w rule (the-rule .1) in
     (done y (length s) (wrote .answer ∙ ap sized out), ap (take (length s)) (wrote .bytes ∙ ap (leftBy before) out) ∙ take-append-seam s _)
 
 -- ---- "and accepted records written and read again are the same"
 
-pub records-again : (all : List Record) (count : ℕ) (before after : List ℕ) (size : ℕ) → count ≤ length all → WritesFile all count before (Done size) after
-    → (x : FileRead) → ReadsFile (take size after) x → (x .verdict ≡ Good count) × (take count (x .records) ≡ take count all)
-records-again all count before after size enough w x r =
-    let rule = the-rule .0 in
-    let wrote = write-is all count before (Done size) after w rule (the-rule .1) in
-    let l = given-lays (writing rule all count (length before)) before size (sym (wrote .answer)) in
-    let file-is : take size after ≡ l .0 =
-    ap (λ (n : ℕ). take n after) (sym (l .2)) ∙ ap (take (length (l .0))) (wrote .bytes ∙ l .3) ∙ take-append-seam (l .0) _ in
-    let back : reading rule (take size after) ≡ given (take count all) =
-    ap (reading rule) file-is ∙ written-then-read rule all count (length before) (l .0) (l .1) (the-rule .1) in
-    let h = subst (λ (a : Answer ℕ (List Record)). HandsBack a x) back (read-is (take size after) x r rule (the-rule .1)) in
-    let many : length (take count all) ≡ count = omega (arith, length-take count all) in (
-      verdict-by (x .verdict) (Good count) (h .verdict ∙ ap given many),
-      ap (λ (n : ℕ). take n (x .records)) (sym many) ∙ ap (take (length (take count all))) (h .records) ∙ take-append-seam (take count all) _,
-    )
+module _ (words before after : List ℕ) (size : ℕ) (w : WritesFile words before (Done size) after) where
+  read-back : reading (the-rule .0) (take size after) ≡ given (recordsIn words)
+  read-back =
+      let rule = the-rule .0 in
+      let count = length (recordsIn words) in
+      let wrote = write-is words before (Done size) after w rule (the-rule .1) in
+      let l = given-lays (writing rule (offered words) count (length before)) before size (sym (wrote .answer)) in
+      let file-is : take size after ≡ l .0 =
+      ap (λ (n : ℕ). take n after) (sym (l .2)) ∙ ap (take (length (l .0))) (wrote .bytes ∙ l .3) ∙ take-append-seam (l .0) _ in
+      let few = few-written rule (offered words) count (length before) (l .0) (l .1) in
+      let all : take count (offered words) ≡ recordsIn words = ap (take count) (take-all 48 (recordsIn words) few) ∙ take-all count (recordsIn words) (omega arith) in
+      ap (reading rule) file-is ∙ written-then-read rule (offered words) count (length before) (l .0) (l .1) (the-rule .1) ∙ ap given all
+
+  pub records-again : ((x : Verdict) → ReadsFile (take size after) x → x ≡ Good (length (recordsIn words)))
+      × ((i : ℕ) (f : Figures) → ReadsRecord (take size after) i f → i < length (recordsIn words) → f ≡ figuresOf (getD (recordsIn words) i blank))
+  records-again = (
+    λ x r. verdict-by x (Good (length (recordsIn words))) (read-is (take size after) x r (the-rule .0) (the-rule .1) ∙ ap counted read-back),
+    λ i f r h. record-is (take size after) i f r ∙ good-record (the-rule .0) (take size after) (recordsIn words) read-back i h,
+  )
 
 -- ---- listings
 

@@ -35,7 +35,8 @@ use Rattle.octets.proofs.LentLaws.{sized-refused}
 use Rattle.watchfile.specs.Format.{DewRule, reading, writing, writeTests}
 use Rattle.watchfile.specs.declared.Record.{Record}
 use Rattle.watchfile.proofs.DewRules.{the-rule}
-use Rattle.writer.specs.Write.{writtenAs}
+use Rattle.handed.specs.Words.{recordsIn}
+use Rattle.writer.specs.Write.{offered, writtenAs}
 use Rattle.writer.specs.declared.Written.{Written}
 use Rattle.writer.proofs.RefusalsInOrder.{writes-in-order}
 use Rattle.writer.proofs.WriteTheorems.{refused-leaves-every-byte}
@@ -73,12 +74,12 @@ by-messages g M b w m h b′ v n =
     let by = message-by-messages g (good g M b w) M m in
     (λ e. law .0 (sym by ∙ told .0 (sym is ∙ e)), λ f. is ∙ told .1 (by ∙ law .1 f))
 
-by-records : (dew : ℕ → ℤ) → DewRule dew → (all : List Record) (count : ℕ) (before after : List ℕ) (w : Written) → WritesFile all count before w after
-    → (n : Numbered) → (writtenAs w ≡ refused n) ↔ First (writeTests dew all count (length before)) n
-by-records dew ruled all count before after w v n =
-    let law = writes-in-order dew all count (length before) n in
-    let h = write-is all count before w after v dew ruled in
-    (λ e. law .0 (sized-refused (writing dew all count (length before)) n (sym (h .answer) ∙ e)), λ f. h .answer ∙ ap sized (law .1 f))
+by-records : (dew : ℕ → ℤ) → DewRule dew → (words before after : List ℕ) (w : Written) → WritesFile words before w after
+    → (n : Numbered) → (writtenAs w ≡ refused n) ↔ First (writeTests dew (offered words) (length (recordsIn words)) (length before)) n
+by-records dew ruled words before after w v n =
+    let law = writes-in-order dew (offered words) (length (recordsIn words)) (length before) n in
+    let h = write-is words before w after v dew ruled in
+    (λ e. law .0 (sized-refused (writing dew (offered words) (length (recordsIn words)) (length before)) n (sym (h .answer) ∙ e)), λ f. h .answer ∙ ap sized (law .1 f))
 
 -- settings that no test refuses are good
 opens : (b : List ℕ) (g : Settings) (c : Checked) (b′ : List ℕ) → Opens b g c b′ → ((n : ℕ) → Holds (settings.tests g) n → ⊥) → Working g [] b′
@@ -155,8 +156,8 @@ demand-1 =
       refused-message = λ b m h b′ n w e.
           hear-block b m h b′ w ∙ refused-changes-nothing b m n (outcome-refused (hearing b m) n .0 (sym (hear-answer b m h b′ w) ∙ e));
       refused-question = λ q b m x b′ n w e. asks-leaves q b m x b′ w;
-      refused-write = λ all count before after w n v e.
-          refused-leaves-every-byte (the-rule .0) all count before after w n (write-is all count before w after v (the-rule .0) (the-rule .1)) e;
+      refused-write = λ words before after w n v e.
+          refused-leaves-every-byte (the-rule .0) (offered words) (length (recordsIn words)) before after w n (write-is words before w after v (the-rule .0) (the-rule .1)) e;
       refused-listing = λ s before after l n w e.
           listed.refused-leaves-every-byte (listingOf (reading (the-rule .0) s)) before after l n (list-is s before l after w (the-rule .0) (the-rule .1)) e;
     }

@@ -5,7 +5,7 @@ use mathlib.Core.List.{List, [], _++_}
 use mathlib.Core.Logic.{_↔_}
 use Prim.Native.Nat.{ℕ, _≤_, _<_}
 use lib.IntN.{ℤ, pos, natAbs}
-use lib.ListN.{length, take, drop}
+use lib.ListN.{length, take, drop, getD}
 use Rattle.number.specs.Refusal.{Numbered, refused, given, Holds, First}
 use Rattle.settings.specs.Settings.{checkedAs}
 use Rattle.settings.specs.Settings as settings
@@ -23,12 +23,14 @@ use Rattle.station.specs.Source.{heard}
 use Rattle.station.specs.Questions.{Asked, pressure, tendency, wind, humidity, question, Reply, reads, Tells}
 use Rattle.heard.specs.Feeds.{SameSettings, fedTo, Replaced, messageTests}
 use Rattle.octets.specs.Bytes.{AreBytes}
-use Rattle.watchfile.specs.Format.{DewRule, reading, fileTests, writeTests, recordRight}
+use Rattle.watchfile.specs.Format.{DewRule, blank, figuresOf, reading, fileTests, writeTests, recordRight}
 use Rattle.watchfile.specs.declared.Record.{Record}
+use Rattle.watchfile.specs.declared.Figures.{Figures}
 use Rattle.reader.specs.Read.{verdictAs}
-use Rattle.reader.specs.declared.FileRead.{FileRead}
+use Rattle.reader.specs.declared.Verdict.{Verdict}
 use Rattle.reader.specs.declared.Verdict.the-variants.{Good}
-use Rattle.writer.specs.Write.{writtenAs}
+use Rattle.handed.specs.Words.{recordsIn}
+use Rattle.writer.specs.Write.{offered, writtenAs}
 use Rattle.writer.specs.declared.Written.{Written}
 use Rattle.writer.specs.declared.Written.the-variants.{Done}
 use Rattle.listing.specs.Listing.{listingOf, listTests, listedAs}
@@ -37,7 +39,7 @@ use Rattle.listing.specs.declared.Listed.the-variants.{Text}
 use Rattle.desk.specs.Records.{pressureRecord, tendencyRecord, windRecord, humidityRecord}
 use Rattle.desk.specs.declared.Entry.{Entry}
 use Rattle.desk.specs.declared.Entry.the-variants as entry
-use Rattle.demands.specs.Working.{Opens, Hears, Recalls, Asks, Working, Replies, ReadsFile, WritesFile, ListsFile, Enters}
+use Rattle.demands.specs.Working.{Opens, Hears, Recalls, Asks, Working, Replies, ReadsFile, ReadsRecord, HandedOn, WritesFile, ListsFile, Enters}
 
 -- ---- 1. "Any message, setting, question or file gets an answer or, exactly when its reason holds and no earlier test has refused, one
 -- of the numbered refusals, and the work always ends. Callers are never trusted to have checked." (That each function answers whatever
@@ -50,10 +52,10 @@ pub record Demand1 : Type 0 where
       → (n : Numbered) → (heardAs h ≡ refused n) ↔ First (messageTests g M m) n
   pub asked : (q : Asked) (g : Settings) (M : List (List ℕ)) (m : ℕ) (x : Reply q) → Replies q g M m x
       → (tables : Tables) → AreTables tables → (n : Numbered) → (question q .told x ≡ refused n) ↔ First (question q .tests [] tables (heard g M) m) n
-  pub write : (dew : ℕ → ℤ) → DewRule dew → (all : List Record) (count : ℕ) (before after : List ℕ) (w : Written) → WritesFile all count before w after
-      → (n : Numbered) → (writtenAs w ≡ refused n) ↔ First (writeTests dew all count (length before)) n
-  pub file : (dew : ℕ → ℤ) → DewRule dew → (s : List ℕ) (x : FileRead) → ReadsFile s x
-      → (n : Numbered) → (verdictAs (x .verdict) ≡ refused n) ↔ First (fileTests dew s) n
+  pub write : (dew : ℕ → ℤ) → DewRule dew → (words before after : List ℕ) (w : Written) → WritesFile words before w after
+      → (n : Numbered) → (writtenAs w ≡ refused n) ↔ First (writeTests dew (offered words) (length (recordsIn words)) (length before)) n
+  pub file : (dew : ℕ → ℤ) → DewRule dew → (s : List ℕ) (x : Verdict) → ReadsFile s x
+      → (n : Numbered) → (verdictAs x ≡ refused n) ↔ First (fileTests dew s) n
   pub listing : (dew : ℕ → ℤ) → DewRule dew → (s before after : List ℕ) (l : Listed) → ListsFile s before l after
       → (n : Numbered) → (listedAs l ≡ refused n) ↔ First (listTests (listingOf (reading dew s)) (length before)) n
   -- Settings that no test refuses open a store, on any memory, and it goes on whatever it is sent.
@@ -64,8 +66,8 @@ pub record Demand1 : Type 0 where
   pub refused-opening : (b : List ℕ) (g : Settings) (c : Checked) (b′ : List ℕ) (n : ℕ) → Opens b g c b′ → checkedAs c ≡ refused n → b′ ≡ b
   pub refused-message : (b m : List ℕ) (h : Hearing) (b′ : List ℕ) (n : Numbered) → Hears b m h b′ → heardAs h ≡ refused n → b′ ≡ b
   pub refused-question : (q : Asked) (b : List ℕ) (m : ℕ) (x : Reply q) (b′ : List ℕ) (n : Numbered) → Asks q b m x b′ → question q .told x ≡ refused n → b′ ≡ b
-  pub refused-write : (all : List Record) (count : ℕ) (before after : List ℕ) (w : Written) (n : Numbered)
-      → WritesFile all count before w after → writtenAs w ≡ refused n → after ≡ before
+  pub refused-write : (words before after : List ℕ) (w : Written) (n : Numbered)
+      → WritesFile words before w after → writtenAs w ≡ refused n → after ≡ before
   pub refused-listing : (s before after : List ℕ) (l : Listed) (n : Numbered) → ListsFile s before l after → listedAs l ≡ refused n → after ≡ before
 
 -- ---- 2. "Pressure, tendency, true wind and humidity are exactly those that RD 52.04.651 defines, as document 01 fixes it, worked from
@@ -85,13 +87,14 @@ pub record Demand2 : Type 0 where
   pub recorded : (q : Asked) (g : Settings) (M : List (List ℕ)) (m : ℕ) (x : Reply q) → Replies q g M m x → (e : Entry) → Enters q m x e
       → (f : question q .Figures) → question q .told x ≡ given f
       → (r : Record) × (e ≡ entry.Record r) × (RecordOf q m f r) × ((dew : ℕ → ℤ) → DewRule dew → recordRight dew 0 r ≡ true)
-  -- "A good watch file read and written again has the same bytes,": in any buffer that has room for them
-  pub file-again : (s : List ℕ) → AreBytes s → (x : FileRead) (count : ℕ) → ReadsFile s x → x .verdict ≡ Good count
-      → (before after : List ℕ) (w : Written) → length s ≤ length before → WritesFile (x .records) count before w after
+  -- "A good watch file read and written again has the same bytes,": its records as they were read, in any buffer that has room for them
+  pub file-again : (s : List ℕ) → AreBytes s → (count : ℕ) → ReadsFile s (Good count) → (words : List ℕ) → HandedOn s count words
+      → (before after : List ℕ) (w : Written) → length s ≤ length before → WritesFile words before w after
       → (w ≡ Done (length s)) × (take (length s) after ≡ s)
-  -- "and accepted records written and read again are the same." (There are 48 places, and no more are accepted.)
-  pub records-again : (all : List Record) (count : ℕ) (before after : List ℕ) (size : ℕ) → count ≤ length all → WritesFile all count before (Done size) after
-      → (x : FileRead) → ReadsFile (take size after) x → (x .verdict ≡ Good count) × (take count (x .records) ≡ take count all)
+  -- "and accepted records written and read again are the same.": so many, and each by its figures
+  pub records-again : (words before after : List ℕ) (size : ℕ) → WritesFile words before (Done size) after
+      → ((x : Verdict) → ReadsFile (take size after) x → x ≡ Good (length (recordsIn words)))
+      × ((i : ℕ) (f : Figures) → ReadsRecord (take size after) i f → i < length (recordsIn words) → f ≡ figuresOf (getD (recordsIn words) i blank))
   -- A listing is document 01's, and what stood behind it in the buffer stays.
   pub listed : (dew : ℕ → ℤ) → DewRule dew → (s before after : List ℕ) (size : ℕ) → ListsFile s before (Text size) after
       → (size ≡ length (listingOf (reading dew s))) × (after ≡ listingOf (reading dew s) ++ drop size before)

@@ -2,8 +2,9 @@
 -- demands speak of.
 use mathlib.Core.Path.{_≡_}
 use mathlib.Core.List.{List, [], _∷_}
-use Prim.Native.Nat.{ℕ}
+use Prim.Native.Nat.{ℕ, _*_, _<_}
 use denote.Ref.{now}
+use lib.ListN.{length, take, drop}
 use Rattle.settings.specs.declared.Settings.{Settings}
 use Rattle.settings.specs.declared.Checked.{Checked}
 use Rattle.settings.specs.declared.Checked.the-variants.{Good}
@@ -17,9 +18,11 @@ use Rattle.station.proofs.pressure.Reads as for-pressure
 use Rattle.station.proofs.tendency.Reads as for-tendency
 use Rattle.station.proofs.wind.Reads as for-wind
 use Rattle.station.proofs.humidity.Reads as for-humidity
-use Rattle.watchfile.specs.declared.Record.{Record}
-use Rattle.reader.specs.declared.FileRead.{FileRead}
+use Rattle.watchfile.specs.declared.Figures.{Figures}
+use Rattle.reader.specs.declared.Verdict.{Verdict}
 use Rattle.reader.proofs.read.Reads as to-read
+use Rattle.reader.proofs.record_at.Reads as to-record
+use Rattle.handed.specs.Words.{wordsOf}
 use Rattle.writer.specs.declared.Written.{Written}
 use Rattle.writer.proofs.write.Reads as to-write
 use Rattle.listing.specs.declared.Listed.{Listed}
@@ -69,14 +72,22 @@ pub record Replies (q : Asked) (g : Settings) (M : List (List ℕ)) (m : ℕ) (x
 
 -- ---- files
 
--- The bytes s were read.
-abbrev pub ReadsFile : List ℕ → FileRead → Type 0
+-- The bytes s were read, and the record with index i of them.
+abbrev pub ReadsFile : List ℕ → Verdict → Type 0
 ReadsFile s x = Call to-read.Post (λ κs a r _. (now (a .0) ≡ s) × (r ≡ x))
 
--- The first `count` of these records were to be written into the buffer `before`, which is `after` then.
-abbrev pub WritesFile : List Record → ℕ → List ℕ → Written → List ℕ → Type 0
-WritesFile all count before w after =
-    Call to-write.Post (λ κs a r s. (now (a .0) ≡ before) × (a .1 .0 ≡ all) × (a .1 .1 .0 ≡ count) × (r ≡ w) × (s .0 .now ≡ after))
+abbrev pub ReadsRecord : List ℕ → ℕ → Figures → Type 0
+ReadsRecord s i f = Call to-record.Post (λ κs a r _. (now (a .0) ≡ s) × (a .1 .0 ≡ i) × (r ≡ f))
+
+-- The words hold `count` records as they were read from s, one behind the other.
+pub record HandedOn (s : List ℕ) (count : ℕ) (words : List ℕ) : Type 0 where
+  pub long : length words ≡ 7 * count
+  pub each : (i : ℕ) → i < count → (f : Figures) × (ReadsRecord s i f) × (take 7 (drop (7 * i) words) ≡ wordsOf f)
+
+-- The records that words hold were to be written into the buffer `before`, which is `after` then.
+abbrev pub WritesFile : List ℕ → List ℕ → Written → List ℕ → Type 0
+WritesFile words before w after =
+    Call to-write.Post (λ κs a r s. (now (a .0) ≡ before) × (now (a .1 .0) ≡ words) × (r ≡ w) × (s .0 .now ≡ after))
 
 -- The file s was to be listed in the buffer `before`, which is `after` then.
 abbrev pub ListsFile : List ℕ → List ℕ → Listed → List ℕ → Type 0

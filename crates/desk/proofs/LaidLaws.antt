@@ -14,7 +14,7 @@ use Rattle.number.specs.Refusal.{given}
 use Rattle.octets.specs.Bytes.{AreBytes}
 use Rattle.octets.specs.Lent.{sized, leftBy}
 use Rattle.octets.proofs.ByteLaws.{bytes-drop}
-use Rattle.watchfile.specs.Format.{blank, figures, reading, writing}
+use Rattle.watchfile.specs.Format.{blank, reading, writing}
 use Rattle.watchfile.specs.declared.Record.{Record}
 use Rattle.watchfile.proofs.SmallLaws.{Small, small-body}
 use Rattle.reader.specs.Read.{kindAt, offsetAt}
@@ -22,8 +22,8 @@ use Rattle.reader.specs.Read as read
 use Rattle.reader.proofs.RecordLaws.{at-row, good-record}
 use Rattle.handed.specs.Handed.{recordOf}
 use Rattle.handed.proofs.HandedLaws.{of-figures}
-use Rattle.handed.specs.Words.{signed32, figuresIn, held, recordAt, recordsIn}
-use Rattle.handed.proofs.WordLaws.{length-records, records-at}
+use Rattle.handed.specs.Words.{figuresIn, held, recordAt, recordsIn}
+use Rattle.handed.proofs.WordLaws.{length-records, records-at, figures-by, same-entries}
 use Rattle.writer.specs.Write.{Wrote, offered}
 use Rattle.writer.specs.declared.Written.{Written}
 use Rattle.desk.specs.Places.{Laid, ReadIn}
@@ -60,17 +60,6 @@ module _ (l vs : List ℕ) (at : ℕ) (room : at + length vs ≤ length l) where
       ∙ getD-drop (at + length vs) l m 0
       ∙ ap (λ (j : ℕ). getD l j 0) f)
 
--- ---- figures by their seven words
-
-pub figures-by : (w w′ : List ℕ) (i j : ℕ) → ((k : ℕ) → k < 7 → getD w (i + k) 0 ≡ getD w′ (j + k) 0) → figuresIn (drop i w) ≡ figuresIn (drop j w′)
-figures-by w w′ i j e =
-    let same : (k : ℕ) → k < 7 → getD (drop i w) k 0 ≡ getD (drop j w′) k 0 = λ k h. getD-drop i w k 0 ∙ e k h ∙ sym (getD-drop j w′ k 0) in
-    all (same 0 (omega arith)) (same 1 (omega arith)) (same 2 (omega arith)) (same 3 (omega arith)) (same 4 (omega arith)) (same 5 (omega arith)) (same 6 (omega arith))
-  where
-    all : {a a′ b b′ c c′ d d′ f f′ g g′ h h′ : ℕ} → a ≡ a′ → b ≡ b′ → c ≡ c′ → d ≡ d′ → f ≡ f′ → g ≡ g′ → h ≡ h′
-        → figures a b (signed32 c) (signed32 d) (signed32 f) (signed32 g) (signed32 h) ≡ figures a′ b′ (signed32 c′) (signed32 d′) (signed32 f′) (signed32 g′) (signed32 h′)
-    all p q r s t u v = rw (p, q, r, s, t, u, v)
-
 -- ---- one more record laid
 
 pub laid-on : (records : List Record) (i : ℕ) (w w′ seven : List ℕ) (r : Record) → Laid records i w → i < 48 → length seven ≡ 7
@@ -98,15 +87,6 @@ laid-on records i w w′ seven r laid h n e is at =
         ∙ ap (λ (x : ℕ). getD records x blank) (sym same)
 
 -- ---- the records that the words hold
-
--- lists of one length with the same entries
-same-entries : (xs ys : List Record) → length xs ≡ length ys → ((k : ℕ) → k < length xs → getD xs k blank ≡ getD ys k blank) → xs ≡ ys
-same-entries [] [] n e = refl
-same-entries [] (y ∷ ys) n e = cc
-same-entries (x ∷ xs) [] n e = cc
-same-entries (x ∷ xs) (y ∷ ys) n e =
-    let first : x ≡ y = e 0 (omega arith) in
-    rw first (ap (λ (l : List Record). y ∷ l) (same-entries xs ys (omega (arith, n)) (λ k h. e (suc k) (omega (arith, h)))))
 
 module _ (records : List Record) (w : List ℕ) (long : length records ≡ 48) (laid : Laid records 48 w) (n : ℕ) (few : n ≤ 49) where
   abbrev words : List ℕ

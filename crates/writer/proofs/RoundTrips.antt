@@ -35,8 +35,11 @@ module _ (rule : ℕ → ℤ) (all : List Record) (count room : ℕ) (bytes : Li
       last-tests (ltb 48 count) (ltb room (length (fileOf (take count all)))) (numbered 16 (48 ∷ [])) (numbered 17 (length (fileOf (take count all)) ∷ []))
       (fileOf (take count all)) bytes (tested .1)
 
+  pub few-written : count ≤ 48
+  few-written = ltb-false 48 count (passed .0)
+
   few : length (take count all) ≤ 48
-  few = omega (arith, ltb-false 48 count (passed .0), length-take count all)
+  few = omega (arith, few-written, length-take count all)
 
   -- WHAT IS WRITTEN IS READ AS THE SAME RECORDS.
   pub written-then-read : DewRule rule → reading rule bytes ≡ given (take count all)
