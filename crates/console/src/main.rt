@@ -89,7 +89,7 @@ fn write(numbers: &[u64], words: usize, room: usize, file: &mut [u8]) {
     let records = values::records_of(numbers, words);
     let count = if words > 0 { words - 1 } else { 0 };
     let most = smaller(room, file.len());
-    let r = writer::write(&mut file[..most], records, count);
+    let r = desk::write(&mut file[..most], records, count);
     let n = match r {
         writer::Written::Done(size) => answer::put_written(&mut text, 0, r, first(file, size)),
         _ => answer::put_written(&mut text, 0, r, b""),

@@ -20,6 +20,8 @@ use Rattle.desk.proofs.wind_record.Reads as wind-record
 use Rattle.desk.proofs.humidity_record.Reads as humidity-record
 use Rattle.desk.proofs.place.Reads as place
 use Rattle.desk.proofs.empty.Reads as empty
+use Rattle.desk.proofs.write.Reads as write
+use Rattle.writer.proofs.SingleAnswers as writer
 
 pub single-hear-all : Single hear-all.Post
 single-hear-all κs a r r′ s s′ p q = ap make (p .counts ∙ sym (q .counts))
@@ -68,3 +70,10 @@ single-empty κs a r r′ s s′ p q =
 
 pub single-empty-left : SingleLeft empty.Post (λ κs s. s .0 .now)
 single-empty-left κs a r r′ s s′ p q = p (the-rule .0) (the-rule .1) .bytes ∙ sym (q (the-rule .0) (the-rule .1) .bytes)
+
+pub single-write : Single write.Post
+single-write κs a r r′ s s′ p q =
+    sym (writer.case-back r) ∙ ap writer.case-of (p (the-rule .0) (the-rule .1) .answer ∙ sym (q (the-rule .0) (the-rule .1) .answer)) ∙ writer.case-back r′
+
+pub single-write-left : SingleLeft write.Post (λ κs s. s .0 .now)
+single-write-left κs a r r′ s s′ p q = p (the-rule .0) (the-rule .1) .bytes ∙ sym (q (the-rule .0) (the-rule .1) .bytes)

@@ -129,6 +129,12 @@ use Rattle.watchfile.proofs.body_right.Reads as watchfile-body-right
 use Rattle.watchfile.proofs.record_right.Reads as watchfile-record-right
 use Rattle.reader.proofs.SingleAnswers as reader
 use Rattle.reader.proofs.read.Reads as reader-read
+use Rattle.reader.proofs.record_at.Reads as reader-record-at
+use Rattle.handed.proofs.SingleAnswers as handed
+use Rattle.handed.proofs.record_of.Reads as handed-record-of
+use Rattle.handed.proofs.words.Reads as handed-words
+use Rattle.handed.proofs.count.Reads as handed-count
+use Rattle.handed.proofs.record_at.Reads as handed-record-at
 use Rattle.writer.proofs.SingleAnswers as writer
 use Rattle.writer.proofs.write.Reads as writer-write
 use Rattle.text.proofs.SingleAnswers as text
@@ -148,6 +154,7 @@ use Rattle.desk.proofs.wind_record.Reads as desk-wind-record
 use Rattle.desk.proofs.humidity_record.Reads as desk-humidity-record
 use Rattle.desk.proofs.place.Reads as desk-place
 use Rattle.desk.proofs.empty.Reads as desk-empty
+use Rattle.desk.proofs.write.Reads as desk-write
 use Rattle.answer.proofs.SingleAnswers as answer
 use Rattle.answer.proofs.put_line.Reads as answer-put-line
 use Rattle.answer.proofs.put_opening.Reads as answer-put-opening
@@ -184,12 +191,9 @@ use Rattle.told.proofs.tendency_told.Reads as told-tendency-told
 use Rattle.told.proofs.wind_told.Reads as told-wind-told
 use Rattle.told.proofs.humidity_told.Reads as told-humidity-told
 use Rattle.filed.proofs.SingleAnswers as filed
-use Rattle.filed.proofs.looked_at.Reads as filed-looked-at
 use Rattle.filed.proofs.file_told.Reads as filed-file-told
 use Rattle.filed.proofs.write_told.Reads as filed-write-told
 use Rattle.filed.proofs.listed_told.Reads as filed-listed-told
-use Rattle.handed.proofs.SingleAnswers as handed
-use Rattle.handed.proofs.records_of.Reads as handed-records-of
 use Rattle.zhitomrak.proofs.SingleAnswers as zhitomrak
 use Rattle.zhitomrak.proofs.zhitomrak_open.Reads as zhitomrak-zhitomrak-open
 use Rattle.zhitomrak.proofs.zhitomrak_hear.Reads as zhitomrak-zhitomrak-hear
@@ -198,6 +202,7 @@ use Rattle.zhitomrak.proofs.zhitomrak_tendency.Reads as zhitomrak-zhitomrak-ten
 use Rattle.zhitomrak.proofs.zhitomrak_wind.Reads as zhitomrak-zhitomrak-wind
 use Rattle.zhitomrak.proofs.zhitomrak_humidity.Reads as zhitomrak-zhitomrak-humidity
 use Rattle.zhitomrak.proofs.zhitomrak_read.Reads as zhitomrak-zhitomrak-read
+use Rattle.zhitomrak.proofs.zhitomrak_record.Reads as zhitomrak-zhitomrak-record
 use Rattle.zhitomrak.proofs.zhitomrak_write.Reads as zhitomrak-zhitomrak-write
 use Rattle.zhitomrak.proofs.zhitomrak_list.Reads as zhitomrak-zhitomrak-list
 
@@ -335,6 +340,12 @@ pub record OneAnswerEach : Type 0 where
   pub watchfile-record-right-single : Single watchfile-record-right.Post
   -- reader
   pub reader-read-single : Single reader-read.Post
+  pub reader-record-at-single : Single reader-record-at.Post
+  -- handed
+  pub handed-record-of-single : Single handed-record-of.Post
+  pub handed-words-single : Single handed-words.Post
+  pub handed-count-single : Single handed-count.Post
+  pub handed-record-at-single : Single handed-record-at.Post
   -- writer
   pub writer-write-single : Single writer-write.Post
   pub writer-write-left : SingleLeft writer-write.Post (λ κs s. s .0 .now)
@@ -365,6 +376,8 @@ pub record OneAnswerEach : Type 0 where
   pub desk-place-left : SingleLeft desk-place.Post (λ κs s. s .0 .now)
   pub desk-empty-single : Single desk-empty.Post
   pub desk-empty-left : SingleLeft desk-empty.Post (λ κs s. s .0 .now)
+  pub desk-write-single : Single desk-write.Post
+  pub desk-write-left : SingleLeft desk-write.Post (λ κs s. s .0 .now)
   -- answer
   pub answer-put-line-single : Single answer-put-line.Post
   pub answer-put-line-left : SingleLeft answer-put-line.Post (λ κs s. s .0 .now)
@@ -416,12 +429,9 @@ pub record OneAnswerEach : Type 0 where
   pub told-wind-told-single : Single told-wind-told.Post
   pub told-humidity-told-single : Single told-humidity-told.Post
   -- filed
-  pub filed-looked-at-single : Single filed-looked-at.Post
   pub filed-file-told-single : Single filed-file-told.Post
   pub filed-write-told-single : Single filed-write-told.Post
   pub filed-listed-told-single : Single filed-listed-told.Post
-  -- handed
-  pub handed-records-of-single : Single handed-records-of.Post
   -- zhitomrak
   pub zhitomrak-zhitomrak-open-single : Single zhitomrak-zhitomrak-open.Post
   pub zhitomrak-zhitomrak-open-left : SingleLeft zhitomrak-zhitomrak-open.Post (λ κs s. s .0 .now)
@@ -432,6 +442,7 @@ pub record OneAnswerEach : Type 0 where
   pub zhitomrak-zhitomrak-wind-single : Single zhitomrak-zhitomrak-wind.Post
   pub zhitomrak-zhitomrak-humidity-single : Single zhitomrak-zhitomrak-humidity.Post
   pub zhitomrak-zhitomrak-read-single : Single zhitomrak-zhitomrak-read.Post
+  pub zhitomrak-zhitomrak-record-single : Single zhitomrak-zhitomrak-record.Post
   pub zhitomrak-zhitomrak-write-single : Single zhitomrak-zhitomrak-write.Post
   pub zhitomrak-zhitomrak-write-left : SingleLeft zhitomrak-zhitomrak-write.Post (λ κs s. s .0 .now)
   pub zhitomrak-zhitomrak-list-single : Single zhitomrak-zhitomrak-list.Post
@@ -556,6 +567,11 @@ one-answer-each =
       watchfile-body-right-single = watchfile.single-body-right;
       watchfile-record-right-single = watchfile.single-record-right;
       reader-read-single = reader.single-read;
+      reader-record-at-single = reader.single-record-at;
+      handed-record-of-single = handed.single-record-of;
+      handed-words-single = handed.single-words;
+      handed-count-single = handed.single-count;
+      handed-record-at-single = handed.single-record-at;
       writer-write-single = writer.single-write;
       writer-write-left = writer.single-write-bytes;
       text-put-byte-single = text.single-put-byte;
@@ -582,6 +598,8 @@ one-answer-each =
       desk-place-left = desk.single-place-left;
       desk-empty-single = desk.single-empty;
       desk-empty-left = desk.single-empty-left;
+      desk-write-single = desk.single-write;
+      desk-write-left = desk.single-write-left;
       answer-put-line-single = answer.single-put-line;
       answer-put-line-left = answer.single-put-line-text;
       answer-put-opening-single = answer.single-put-opening;
@@ -625,11 +643,9 @@ one-answer-each =
       told-tendency-told-single = told.single-tendency-told;
       told-wind-told-single = told.single-wind-told;
       told-humidity-told-single = told.single-humidity-told;
-      filed-looked-at-single = filed.single-looked-at;
       filed-file-told-single = filed.single-file-told;
       filed-write-told-single = filed.single-write-told;
       filed-listed-told-single = filed.single-listed-told;
-      handed-records-of-single = handed.single-records-of;
       zhitomrak-zhitomrak-open-single = zhitomrak.single-open;
       zhitomrak-zhitomrak-open-left = zhitomrak.single-open-left;
       zhitomrak-zhitomrak-hear-single = zhitomrak.single-hear;
@@ -639,6 +655,7 @@ one-answer-each =
       zhitomrak-zhitomrak-wind-single = zhitomrak.single-wind;
       zhitomrak-zhitomrak-humidity-single = zhitomrak.single-humidity;
       zhitomrak-zhitomrak-read-single = zhitomrak.single-read;
+      zhitomrak-zhitomrak-record-single = zhitomrak.single-record;
       zhitomrak-zhitomrak-write-single = zhitomrak.single-write;
       zhitomrak-zhitomrak-write-left = zhitomrak.single-write-left;
       zhitomrak-zhitomrak-list-single = zhitomrak.single-list;
