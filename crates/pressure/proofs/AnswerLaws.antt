@@ -1,15 +1,13 @@
 -- The answers, by the tests that the code makes. Assumes nothing.
 use mathlib.Core.Path.{_≡_, refl, sym, ap, ap₂, _∙_}
-use mathlib.Core.Bool.{Bool, true, false, _&&_}
+use mathlib.Core.Bool.{Bool, true, false}
 use lib.IntN.{ℤ, _+ℤ_}
 use Rattle.number.specs.Refusal.{refused, given, answer}
 use Rattle.number.specs.declared.Number.{Number}
-use Rattle.quantity.specs.Limits.{inside, pressureLimits, wheelhouse}
+use Rattle.quantity.specs.Limits.{inside, wheelhouse}
 use Rattle.quantity.specs.declared.BarometerUnit.{BarometerUnit}
-use Rattle.quantity.specs.declared.BarometerUnit.the-variants.{Hectopascals, Millimetres}
-use Rattle.pressure.specs.Pressure.{Barometer, readingAs, inUnit, tenthsIn, isReading, scale, outside, corrected, toHectopascals, roundedOnce, seaLevel, stationPressure, scaled, scaledAs, seaLevelAnswer, stationAnswer}
+use Rattle.pressure.specs.Pressure.{Barometer, readingAs, inUnit, tenthsIn, scale, outside, corrected, toHectopascals, roundedOnce, seaLevel, stationPressure, scaled, scaledAs, seaLevelAnswer, stationAnswer}
 use Rattle.pressure.specs.declared.BarometerReading.{BarometerReading}
-use Rattle.pressure.specs.declared.BarometerReading.the-variants as reading
 use Rattle.pressure.specs.declared.ScaleCorrection.{ScaleCorrection}
 use Rattle.pressure.specs.declared.ScaleCorrection.the-variants.{Tenths, NoneThere}
 
@@ -36,65 +34,57 @@ module _ (b : Barometer) (r : ℤ) where
       go true h = let e′ = rw (n, h) at e in record { there = cc; is = cc }
       go false h = let e′ = rw (n, h) at e in record { there = h; is = cc }
 
--- ---- the answers, of a reading x that has r tenths in the barometer's unit u
+-- ---- the answers, of a reading x, in a barometer's unit u
 
-module _ (b : Barometer) (x : BarometerReading) {u : BarometerUnit} {r : ℤ} (e : u ≡ b .unit) (h : r ≡ tenthsIn u (readingAs x)) where
-  tenths : r ≡ tenthsIn (b .unit) (readingAs x)
-  tenths = h ∙ ap (λ (v : BarometerUnit). tenthsIn v (readingAs x)) e
+module _ (b : Barometer) (x : BarometerReading) {u : BarometerUnit} (e : u ≡ b .unit) where
+  in-unit : {t : Bool} → inUnit u (readingAs x) ≡ t → inUnit (b .unit) (readingAs x) ≡ t
+  in-unit i = sym (ap (λ (v : BarometerUnit). inUnit v (readingAs x)) e) ∙ i
 
-  -- one in the other unit has 0 tenths, which lies outside the limits
-  is-reading : {t : Bool} → inside (pressureLimits u) r ≡ t → isReading b (readingAs x) ≡ t
-  unfolding inUnit tenthsIn
-  is-reading i =
-      go (b .unit) x ∙ sym (ap₂ (λ (v : BarometerUnit) (z : ℤ). inside (pressureLimits v) z) e tenths) ∙ i
-    where
-      go : (v : BarometerUnit) (y : BarometerReading)
-          → (inUnit v (readingAs y) && inside (pressureLimits v) (tenthsIn v (readingAs y))) ≡ inside (pressureLimits v) (tenthsIn v (readingAs y))
-      go Hectopascals (reading.Hectopascals p) = refl
-      go Hectopascals (reading.Millimetres p) = refl
-      go Millimetres (reading.Hectopascals p) = refl
-      go Millimetres (reading.Millimetres p) = refl
-
-  certified : {t : Bool} → outside b r ≡ t → outside b (tenthsIn (b .unit) (readingAs x)) ≡ t
-  certified o = sym (ap (outside b) tenths) ∙ o
-
-  -- ---- station pressure
-
-  pub station-limits : inside (pressureLimits u) r ≡ false → refused 7 ≡ stationAnswer b (readingAs x)
+  pub station-unit : inUnit u (readingAs x) ≡ false → refused 7 ≡ stationAnswer b (readingAs x)
   unfolding stationAnswer answer
-  station-limits i = rw (is-reading i)
-
-  pub station-outside : inside (pressureLimits u) r ≡ true → outside b r ≡ true → refused 12 ≡ stationAnswer b (readingAs x)
-  unfolding stationAnswer answer
-  station-outside i o = rw (is-reading i, certified o)
-
-  -- p is worked of y tenths, the reading plus its correction z
-  pub station-given : {p y z : ℤ} → inside (pressureLimits u) r ≡ true → Worked b r z
-      → y ≡ r +ℤ z → p ≡ toHectopascals u y → given p ≡ stationAnswer b (readingAs x)
-  unfolding stationAnswer stationPressure answer
-  station-given i w f k =
-      rw (is-reading i, certified (w .there))
-      (ap given (k ∙ ap₂ toHectopascals e (f ∙ ap (λ (s : ℤ). r +ℤ s) (w .is)) ∙ ap (stationPressure b) tenths))
-
-  -- ---- sea level pressure
+  station-unit i = rw (in-unit i)
 
   module _ (t : ℤ) where
-    pub sea-limits : inside (pressureLimits u) r ≡ false → refused 7 ≡ seaLevelAnswer b (readingAs x) t
+    pub sea-unit : inUnit u (readingAs x) ≡ false → refused 7 ≡ seaLevelAnswer b (readingAs x) t
     unfolding seaLevelAnswer answer
-    sea-limits i = rw (is-reading i)
+    sea-unit i = rw (in-unit i)
 
-    pub sea-limits-2 : inside (pressureLimits u) r ≡ true → inside wheelhouse t ≡ false → refused 7 ≡ seaLevelAnswer b (readingAs x) t
+    pub sea-limits : inUnit u (readingAs x) ≡ true → inside wheelhouse t ≡ false → refused 7 ≡ seaLevelAnswer b (readingAs x) t
     unfolding seaLevelAnswer answer
-    sea-limits-2 i j = rw (is-reading i, j)
+    sea-limits i j = rw (in-unit i, j)
 
-    pub sea-outside : inside (pressureLimits u) r ≡ true → inside wheelhouse t ≡ true → outside b r ≡ true → refused 12 ≡ seaLevelAnswer b (readingAs x) t
+  -- it has r tenths
+  module _ {r : ℤ} (h : r ≡ tenthsIn u (readingAs x)) where
+    tenths : r ≡ tenthsIn (b .unit) (readingAs x)
+    tenths = h ∙ ap (λ (v : BarometerUnit). tenthsIn v (readingAs x)) e
+
+    certified : {t : Bool} → outside b r ≡ t → outside b (tenthsIn (b .unit) (readingAs x)) ≡ t
+    certified o = sym (ap (outside b) tenths) ∙ o
+
+    -- ---- station pressure
+
+    pub station-outside : inUnit u (readingAs x) ≡ true → outside b r ≡ true → refused 12 ≡ stationAnswer b (readingAs x)
+    unfolding stationAnswer answer
+    station-outside i o = rw (in-unit i, certified o)
+
+    -- p is worked of y tenths, the reading plus its correction z
+    pub station-given : {p y z : ℤ} → inUnit u (readingAs x) ≡ true → Worked b r z
+        → y ≡ r +ℤ z → p ≡ toHectopascals u y → given p ≡ stationAnswer b (readingAs x)
+    unfolding stationAnswer stationPressure answer
+    station-given i w f k =
+        rw (in-unit i, certified (w .there))
+        (ap given (k ∙ ap₂ toHectopascals e (f ∙ ap (λ (s : ℤ). r +ℤ s) (w .is)) ∙ ap (stationPressure b) tenths))
+
+    -- ---- sea level pressure, at t tenths of °C
+
+    pub sea-outside : (t : ℤ) → inUnit u (readingAs x) ≡ true → inside wheelhouse t ≡ true → outside b r ≡ true → refused 12 ≡ seaLevelAnswer b (readingAs x) t
     unfolding seaLevelAnswer answer
-    sea-outside i j o = rw (is-reading i, j, certified o)
+    sea-outside t i j o = rw (in-unit i, j, certified o)
 
     -- p is worked of y, the reading plus its three corrections, z by the scale
-    pub sea-given : {p y z : ℤ} → inside (pressureLimits u) r ≡ true → inside wheelhouse t ≡ true → Worked b r z
+    pub sea-given : {p y z : ℤ} (t : ℤ) → inUnit u (readingAs x) ≡ true → inside wheelhouse t ≡ true → Worked b r z
         → y ≡ corrected b r z t → p ≡ roundedOnce u y → given p ≡ seaLevelAnswer b (readingAs x) t
     unfolding seaLevelAnswer seaLevel answer
-    sea-given i j w f k =
-        rw (is-reading i, j, certified (w .there))
+    sea-given t i j w f k =
+        rw (in-unit i, j, certified (w .there))
         (ap given (k ∙ ap₂ roundedOnce e (f ∙ ap (λ (s : ℤ). corrected b r s t) (w .is)) ∙ ap (λ (q : ℤ). seaLevel b q t) tenths))

@@ -1,12 +1,13 @@
 -- The pairs of neighbouring points as a loop goes through them: what is left to try answers for the whole. Assumes nothing.
-use mathlib.Core.Path.{_≡_, ap, _∙_}
-use mathlib.Core.Bool.{Bool, true, false, not, cond}
+use mathlib.Core.Path.{_≡_, refl, ap, _∙_}
+use mathlib.Core.Bool.{Bool, true, false, not, _&&_, cond}
 use Prim.Native.Nat.{ℕ, suc, _+_, _-_, _≤_, _<_}
 use native.Mathlib.Omega.{arith}
 use native.Mathlib.Nat.{sub-zero}
 use lib.IntN.{ℤ}
+use lib.Signed.{leZ}
 use Rattle.number.specs.Refusal.{Answer, refused, given, answer}
-use Rattle.settings.specs.Settings.{every}
+use Rattle.settings.specs.Settings.{every, rises}
 use Rattle.settings.specs.declared.Point.{Point}
 use Rattle.settings.proofs.EveryLaws.{passed, failed, done}
 use Rattle.pressure.specs.Pressure.{Barometer, around, between, scaleFrom, scale, outside, scaled}
@@ -19,6 +20,15 @@ pairs point r i n =
 pub whole : (b : Barometer) (r : ℤ) → pairs (b .point) r 0 (b .points - 1 - 0) ≡ scaled b r
 unfolding pairs scaled answer outside scale
 whole b r = ap (pairs (b .point) r 0) (sub-zero (b .points - 1))
+
+-- no pair stands round a reading above its higher point
+pub above : (p q : Point) (r : ℤ) → leZ r (q .reading .v) ≡ false → around p q r ≡ false
+above p q r e = rw e (go (rises p q) (leZ (p .reading .v) r))
+  where
+    go : (x y : Bool) → (x && y && false) ≡ false
+    go true true = refl
+    go true false = refl
+    go false y = refl
 
 module _ (point : ℕ → Point) (r : ℤ) (i n : ℕ) where
   stands : Bool

@@ -1,5 +1,6 @@
 -- The scale correction of a certificate that keeps its rules: whichever neighbours stand round a reading give it, so at a point
--- it is that point's correction, and a reading is outside exactly when it lies below the first point's or above the last's.
+-- it is that point's correction, and a reading is outside exactly when it lies below the first point's or above the last's. One that
+-- is not is within the barometer's limits.
 -- From the laws of rising points. Assumes nothing.
 use mathlib.Core.Path.{_≡_, refl, sym, ap, _∙_, subst}
 use mathlib.Core.Bool.{Bool, true, false, not, _&&_}
@@ -11,17 +12,18 @@ use native.Mathlib.Nat.{zero-add}
 use lib.Dec.{leb}
 use lib.IntN.{ℤ}
 use lib.Signed.{leZ, ltZ}
-use borrow.Author.Tests.{leb-true, not-true}
+use borrow.Author.Tests.{leb-true, not-true, not-false}
 use Rattle.number.specs.Refusal.{given}
 use Rattle.number.specs.Whole.{within}
-use Rattle.number.proofs.Sizes.{and-true}
+use Rattle.number.proofs.Sizes.{and-true, both}
+use Rattle.quantity.specs.Limits.{inside, pressureLimits}
 use Rattle.settings.specs.Settings.{every, pointAt, pointHolds, rises, certificateHolds, checked}
 use Rattle.settings.specs.declared.Settings.{Settings}
 use Rattle.settings.specs.declared.Point.{Point}
 use Rattle.settings.proofs.EveryLaws.{every-at}
 use Rattle.block.proofs.OpenedLaws.{certificate}
 use Rattle.pressure.specs.Pressure.{barometerIn, around, between, scale, outside}
-use Rattle.pressure.proofs.OrderLaws.{below-is}
+use Rattle.pressure.proofs.OrderLaws.{below-is, at-most, is-at-most}
 use Rattle.pressure.proofs.LineLaws.{at-low, at-high}
 use Rattle.pressure.proofs.RisingLaws.{any-from, stands, not-outside, outside-is}
 
@@ -109,3 +111,37 @@ module _ (g : Settings) (good : checked g ≡ given tt) where
       back : (ltZ r first ≡ true) ⊎ (ltZ last r ≡ true) → not (within first last r) ≡ true
       back (inl e) = rw (not-true (leZ first r) (sym (below-is r first) ∙ e))
       back (inr e) = either (leZ first r) (not-true (leZ r last) (sym (below-is last r) ∙ e))
+
+  -- A reading that has a scale correction is within its barometer's limits, since both ends of the certificate are: so no figure is
+  -- given for one outside them.
+  holds-at : (k : ℕ) → k < g .count → inside (pressureLimits (g .unit)) (point k .reading .v) ≡ true
+  unfolding certificateHolds
+  holds-at k h =
+      let c = and-true (leb 2 (g .count) && leb (g .count) 16 && every (λ (j : ℕ). pointHolds (g .unit) (point j)) 0 (g .count)) _ (certificate g good) .0 in
+      let all = and-true (leb 2 (g .count) && leb (g .count) 16) _ c .1 in
+      and-true (inside (pressureLimits (g .unit)) (point k .reading .v)) _
+      (ap (λ (j : ℕ). pointHolds (g .unit) (point j)) (sym (zero-add k)) ∙ every-at (λ (j : ℕ). pointHolds (g .unit) (point j)) 0 (g .count) k all h) .0
+
+  pub within-limits : (r : ℤ) → outside (barometerIn g) r ≡ false → inside (pressureLimits (g .unit)) r ≡ true
+  unfolding outside
+  within-limits r e =
+      both (in-turn low first r (and-true (leZ low first) (leZ first high) (holds-at 0 (omega (arith, two))) .0) (ends .0))
+      (in-turn r last high (ends .1) (and-true (leZ low last) (leZ last high) (holds-at (g .count - 1) (omega (arith, two))) .1))
+    where
+      low : ℤ
+      low = pressureLimits (g .unit) .low
+
+      high : ℤ
+      high = pressureLimits (g .unit) .high
+
+      first : ℤ
+      first = point 0 .reading .v
+
+      last : ℤ
+      last = point (g .count - 1) .reading .v
+
+      ends : (leZ first r ≡ true) × (leZ r last ≡ true)
+      ends = and-true (leZ first r) (leZ r last) (not-false (within first last r) (sym (outside-is point (g .count - 1) rising r (omega (arith, two))) ∙ e))
+
+      in-turn : (x y z : ℤ) → leZ x y ≡ true → leZ y z ≡ true → leZ x z ≡ true
+      in-turn x y z h k = is-at-most x z (omega (arith, at-most x y h, at-most y z k))

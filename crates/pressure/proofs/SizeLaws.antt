@@ -1,7 +1,7 @@
 -- How large the corrections can be: no larger than the coefficients, heights and points that they are worked from allow. For
 -- any block, whose figures are 16 bits each, that is little enough for every sum to fit. Assumes nothing.
 use mathlib.Core.Path.{_≡_, refl}
-use mathlib.Core.Bool.{Bool, true, false}
+use mathlib.Core.Bool.{Bool, true, false, not}
 use mathlib.Core.List.{List}
 use Prim.Native.Nat.{ℕ, zero, suc, _+_, _-_, _*_, _/_, _%_, _≤_, zero-le}
 use native.Mathlib.Omega.{arith}
@@ -10,16 +10,17 @@ use lib.Dec.{ltb, lit≤, lit<}
 use lib.IntN.{ℤ, pos, natAbs, _+ℤ_, _*ℤ_}
 use lib.ListN.{getD}
 use Rattle.number.specs.Round.{nearest, rounded}
-use Rattle.number.proofs.Sizes.{size-sum, size-mul}
+use Rattle.number.proofs.Sizes.{impossible, size-sum, size-mul}
 use Rattle.quantity.specs.declared.BarometerUnit.{BarometerUnit}
 use Rattle.quantity.specs.declared.BarometerUnit.the-variants.{Hectopascals, Millimetres}
+use Rattle.settings.specs.Settings.{every}
 use Rattle.settings.specs.declared.Point.{Point}
 use Rattle.block.specs.Layout.{POINTS}
 use Rattle.cell.specs.Cells.{unbiased}
-use Rattle.block.specs.Words.{unitOf, settingOf, pointOf}
-use Rattle.pressure.specs.Pressure.{Barometer, barometerOf, around, scaleFrom, scale, temperature, perMetre, height, factor, roundedOnce, seaLevel}
+use Rattle.block.specs.Words.{unitOf, settingOf, pointsOf, pointOf}
+use Rattle.pressure.specs.Pressure.{Barometer, barometerOf, around, scaleFrom, scale, outside, temperature, perMetre, height, factor, roundedOnce, seaLevel}
 use Rattle.pressure.specs.Stored.{Stored}
-use Rattle.pressure.proofs.LineLaws.{rounded-at-most, between-size}
+use Rattle.pressure.proofs.LineLaws.{rounded-at-most, between-size, reading-size}
 
 pub product : {a b m n : ℕ} → a ≤ m → b ≤ n → a * b ≤ m * n
 product {a} {b} {m} {n} h k = le-trans (mul-le-mul-left a k) (mul-le-mul-right n h)
@@ -68,6 +69,21 @@ stored s i = go (ltb i 16) refl
 
 pub scale-stored : (s : List ℕ) (r : ℤ) → natAbs (scale (barometerOf s) r) ≤ 32768
 scale-stored s r = scale-size (barometerOf s) r 32768 (λ j h. stored s j .correction)
+
+-- a reading within the certificate is no larger than its points
+certified-from : (s : List ℕ) (r : ℤ) (i n : ℕ) → every (λ (k : ℕ). not (around (pointOf s k) (pointOf s (k + 1)) r)) i n ≡ false → natAbs r ≤ 32768
+unfolding every
+certified-from s r i zero e = impossible (cc)
+certified-from s r i (suc n) e = by (around (pointOf s i) (pointOf s (i + 1)) r) refl (certified-from s r (suc i) n)
+  where
+    by : (t : Bool) → around (pointOf s i) (pointOf s (i + 1)) r ≡ t
+        → (every (λ (k : ℕ). not (around (pointOf s k) (pointOf s (k + 1)) r)) (suc i) n ≡ false → natAbs r ≤ 32768) → natAbs r ≤ 32768
+    by true a rest = reading-size (pointOf s i) (pointOf s (i + 1)) r 32768 a (stored s i .reading) (stored s (i + 1) .reading)
+    by false a rest = rest (rw a at e)
+
+pub certified-stored : (s : List ℕ) (r : ℤ) → outside (barometerOf s) r ≡ false → natAbs r ≤ 32768
+unfolding outside
+certified-stored s r h = certified-from s r 0 (pointsOf s - 1) h
 
 pub temperature-stored : (n : ℕ) (t : ℤ) → natAbs t ≤ 600 → natAbs (temperature (unbiased n) t) ≤ 19661
 temperature-stored n t h = temperature-size (unbiased n) t 32768 600 19661 (setting-size n) h (lit≤ tt)

@@ -8,7 +8,7 @@ use lib.IntN.{ℤ, pos, natAbs, _+ℤ_, _-ℤ_, _*ℤ_}
 use lib.Signed.{leZ}
 use Rattle.number.specs.Round.{rounded}
 use Rattle.number.specs.Refusal.{Test, Answer, refused, given, answer}
-use Rattle.quantity.specs.Limits.{inside, pressureLimits, wheelhouse}
+use Rattle.quantity.specs.Limits.{inside, wheelhouse}
 use Rattle.quantity.specs.Convert.{inHectopascals}
 use Rattle.quantity.specs.declared.BarometerUnit.{BarometerUnit}
 use Rattle.quantity.specs.declared.BarometerUnit.the-variants.{Hectopascals, Millimetres}
@@ -150,11 +150,8 @@ stationPressure b reading = toHectopascals (b .unit) (reading +ℤ scale b readi
 
 -- ---- the answers
 
--- A reading of this barometer: in its unit and within its limits.
-abbrev pub isReading : Barometer → Figure → Bool
-isReading b f = inUnit (b .unit) f && inside (pressureLimits (b .unit)) (tenthsIn (b .unit) f)
-
--- 7: a reading or a temperature outside limits; 12: a reading outside the certificate
+-- 7: a reading in another unit than the barometer's, or a temperature outside limits; 12: a reading outside the certificate. A reading
+-- outside its own limits is none that is kept.
 abbrev pub outsideTest : Barometer → ℤ → Test ℕ
 outsideTest b reading = record { refusal = 12; holds = outside b reading }
 
@@ -164,13 +161,13 @@ scaled b reading = answer (outsideTest b reading ∷ []) (scale b reading)
 unfoldable pub seaLevelAnswer : Barometer → Figure → ℤ → Answer ℕ ℤ
 seaLevelAnswer b f t =
     answer
-    (record { refusal = 7; holds = not (isReading b f) || not (inside wheelhouse t) } ∷ outsideTest b (tenthsIn (b .unit) f) ∷ [])
+    (record { refusal = 7; holds = not (inUnit (b .unit) f) || not (inside wheelhouse t) } ∷ outsideTest b (tenthsIn (b .unit) f) ∷ [])
     (seaLevel b (tenthsIn (b .unit) f) t)
 
 unfoldable pub stationAnswer : Barometer → Figure → Answer ℕ ℤ
 stationAnswer b f =
     answer
-    (record { refusal = 7; holds = not (isReading b f) } ∷ outsideTest b (tenthsIn (b .unit) f) ∷ [])
+    (record { refusal = 7; holds = not (inUnit (b .unit) f) } ∷ outsideTest b (tenthsIn (b .unit) f) ∷ [])
     (stationPressure b (tenthsIn (b .unit) f))
 
 -- Document 01's number and value of each case.

@@ -5,8 +5,9 @@ ghost use mathlib.Core.Path.{_≡_};
 ghost use mathlib.Core.Bool.{true};
 ghost use Prim.Native.Nat.{_≤_, _<_, _^_};
 ghost use lib.IntN.{natAbs, _*ℤ_};
+ghost use lib.Signed.{leZ};
 ghost use Rattle.number.specs.Whole.{Is};
-ghost use Rattle.pressure.specs.Pressure.{barometerOf, around, line, between, temperature, height, corrected, toHectopascals, roundedOnce, tenthsIn, readingAs, scaled, scaledAs, seaLevelAnswer, stationAnswer, pressureAs};
+ghost use Rattle.pressure.specs.Pressure.{barometerOf, inUnit, around, line, between, temperature, height, corrected, toHectopascals, roundedOnce, tenthsIn, readingAs, scaled, scaledAs, seaLevelAnswer, stationAnswer, pressureAs};
 ghost use Rattle.pressure.specs.Stored.{Stored};
 use block::Store;
 use number::Number;
@@ -36,13 +37,29 @@ enum ScaleCorrection {
 // A pressure that was worked from a reading.
 pub enum WorkedPressure {
     Given(Hectopascals),
-    // 7: the reading or the temperature is outside its limits, or the reading is in another unit than the store's
+    // 7: the reading is in another unit than the store's, or the temperature is outside its limits
     OutsideLimits,
     // 12
     OutsideCertificate,
 }
 
-// The tenths of a reading in the barometer's unit. Of one in the other unit 0, which lies outside the limits of both.
+// Whether a reading is in the barometer's unit.
+fn in_unit(unit: BarometerUnit, reading: BarometerReading) -> bool
+    ensures { λ r. ⌜ r ≡ inUnit unit (readingAs reading) ⌝ }
+{
+    match reading {
+        BarometerReading::Hectopascals(_) => match unit {
+            BarometerUnit::Hectopascals => true,
+            BarometerUnit::Millimetres => false,
+        },
+        BarometerReading::Millimetres(_) => match unit {
+            BarometerUnit::Hectopascals => false,
+            BarometerUnit::Millimetres => true,
+        },
+    }
+}
+
+// The tenths of a reading in the barometer's unit. Of one in the other unit 0.
 fn tenths_in(unit: BarometerUnit, reading: BarometerReading) -> Number
     ensures { λ r. ⌜ r .v ≡ tenthsIn unit (readingAs reading) ⌝ }
 {
@@ -80,6 +97,14 @@ fn around(p: Point, q: Point, reading: Number) -> bool
     reading.at_most(to)
 }
 
+// Whether a reading is at most a point's.
+fn up_to(p: Point, reading: Number) -> bool
+    ensures { λ r. ⌜ r ≡ leZ (reading .v) (p .reading .v) ⌝ }
+{
+    let high = p.reading;
+    reading.at_most(high.number())
+}
+
 // A correction times a distance of readings.
 fn weighed(by: Correction, distance: Number) -> Number
     requires { ⌜ (natAbs (by .0 .v) ≤ 32768) × (natAbs (distance .v) ≤ 65536) ⌝ }
@@ -115,16 +140,19 @@ fn between(p: Point, q: Point, reading: Number) -> Number
 }
 
 // The scale correction: the first two neighbouring points that stand round the reading give it. Or refusal 12: there are none.
+// No pair stands round a reading above its higher point, so that is tested first, and the lower point read after it.
 fn scale_correction(store: &Store, reading: Number) -> ScaleCorrection
     ensures { λ r. ⌜ scaledAs r ≡ scaled (barometerOf (now (store .entry))) (reading .v) ⌝ }
 {
     let n = block::points(store);
     let mut i: u32 = 0;
     while i + 1 < n {
-        let p = block::point(store, i);
         let q = block::point(store, i + 1);
-        if around(p, q, reading) {
-            return ScaleCorrection::Tenths(between(p, q, reading));
+        if up_to(q, reading) {
+            let p = block::point(store, i);
+            if around(p, q, reading) {
+                return ScaleCorrection::Tenths(between(p, q, reading));
+            }
         }
         i += 1;
     }
@@ -197,6 +225,7 @@ fn corrected(
 }
 
 // The pressure at sea level: the reading plus its three corrections, in hPa, rounded once. Or the first of refusals 7 and 12 that holds.
+// A reading's limits are tested where it is kept; one within the certificate is small enough for every sum, whatever the block.
 pub fn sea_level_pressure(
     store: &Store,
     reading: BarometerReading,
@@ -205,14 +234,14 @@ pub fn sea_level_pressure(
     ensures { λ r. ⌜ pressureAs r ≡ seaLevelAnswer (barometerOf (now (store .entry))) (readingAs reading) (wheelhouse .0 .v) ⌝ }
 {
     let unit = block::unit(store);
-    let tenths = tenths_in(unit, reading);
     let degrees = wheelhouse.0;
-    if !unit.holds(tenths) {
+    if !in_unit(unit, reading) {
         return WorkedPressure::OutsideLimits;
     }
     if !WheelhouseTemperature::holds(degrees.number()) {
         return WorkedPressure::OutsideLimits;
     }
+    let tenths = tenths_in(unit, reading);
     match scale_correction(store, tenths) {
         ScaleCorrection::NoneThere => WorkedPressure::OutsideCertificate,
         ScaleCorrection::Tenths(scale) => {
@@ -227,10 +256,10 @@ pub fn station_pressure(store: &Store, reading: BarometerReading) -> WorkedPress
     ensures { λ r. ⌜ pressureAs r ≡ stationAnswer (barometerOf (now (store .entry))) (readingAs reading) ⌝ }
 {
     let unit = block::unit(store);
-    let tenths = tenths_in(unit, reading);
-    if !unit.holds(tenths) {
+    if !in_unit(unit, reading) {
         return WorkedPressure::OutsideLimits;
     }
+    let tenths = tenths_in(unit, reading);
     match scale_correction(store, tenths) {
         ScaleCorrection::NoneThere => WorkedPressure::OutsideCertificate,
         ScaleCorrection::Tenths(scale) => {

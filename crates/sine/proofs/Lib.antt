@@ -1,3 +1,4 @@
+mod ArmLaws
 pub mod EveryNumber
 pub mod TableLaws
 pub mod SineLaws

@@ -1,5 +1,6 @@
 // The sine at each half degree from 0 to 90, in millionths, and from it the sine and the cosine of any half degree.
 ghost use mathlib.Core.Path.{_≡_};
+ghost use Prim.Native.Nat.{_+_, _-_, _*_};
 ghost use Rattle.sine.specs.Sine.{entry, size, sine, cosine, Parts};
 
 // A number that may be below zero: it is `up` where it is not, and minus `down` where it is. The other of the two is 0.
@@ -8,8 +9,11 @@ pub struct Millionths {
     pub down: u64,
 }
 
+// The sine and the cosine of a mark.
+pub struct SineAndCosine(pub u64, pub u64);
+
 // The table's entry for i half degrees; 0 past the last, 180. As a `match` it is compiled to a table that is read in place.
-pub fn entry(i: u32) -> u64
+fn entry(i: u32) -> u64
     ensures { λ r. ⌜ r ≡ entry i ⌝ }
 {
     match i {
@@ -198,8 +202,108 @@ pub fn entry(i: u32) -> u64
     }
 }
 
+// Mark i of a quarter turn, at i degrees and a half: the two entries that are its sine and its cosine, side by side, so that a
+// turn of a search of the marks finds both by one number. Past the last, 89, both are 0.
+pub fn mark(i: u32) -> SineAndCosine
+    ensures { λ r. ⌜ (r .0 ≡ entry (2 * i + 1)) × (r .1 ≡ entry (179 - 2 * i)) ⌝ }
+{
+    match i {
+        0 => SineAndCosine(8727, 999962),
+        1 => SineAndCosine(26177, 999657),
+        2 => SineAndCosine(43619, 999048),
+        3 => SineAndCosine(61049, 998135),
+        4 => SineAndCosine(78459, 996917),
+        5 => SineAndCosine(95846, 995396),
+        6 => SineAndCosine(113203, 993572),
+        7 => SineAndCosine(130526, 991445),
+        8 => SineAndCosine(147809, 989016),
+        9 => SineAndCosine(165048, 986286),
+        10 => SineAndCosine(182236, 983255),
+        11 => SineAndCosine(199368, 979925),
+        12 => SineAndCosine(216440, 976296),
+        13 => SineAndCosine(233445, 972370),
+        14 => SineAndCosine(250380, 968148),
+        15 => SineAndCosine(267238, 963630),
+        16 => SineAndCosine(284015, 958820),
+        17 => SineAndCosine(300706, 953717),
+        18 => SineAndCosine(317305, 948324),
+        19 => SineAndCosine(333807, 942641),
+        20 => SineAndCosine(350207, 936672),
+        21 => SineAndCosine(366501, 930418),
+        22 => SineAndCosine(382683, 923880),
+        23 => SineAndCosine(398749, 917060),
+        24 => SineAndCosine(414693, 909961),
+        25 => SineAndCosine(430511, 902585),
+        26 => SineAndCosine(446198, 894934),
+        27 => SineAndCosine(461749, 887011),
+        28 => SineAndCosine(477159, 878817),
+        29 => SineAndCosine(492424, 870356),
+        30 => SineAndCosine(507538, 861629),
+        31 => SineAndCosine(522499, 852640),
+        32 => SineAndCosine(537300, 843391),
+        33 => SineAndCosine(551937, 833886),
+        34 => SineAndCosine(566406, 824126),
+        35 => SineAndCosine(580703, 814116),
+        36 => SineAndCosine(594823, 803857),
+        37 => SineAndCosine(608761, 793353),
+        38 => SineAndCosine(622515, 782608),
+        39 => SineAndCosine(636078, 771625),
+        40 => SineAndCosine(649448, 760406),
+        41 => SineAndCosine(662620, 748956),
+        42 => SineAndCosine(675590, 737277),
+        43 => SineAndCosine(688355, 725374),
+        44 => SineAndCosine(700909, 713250),
+        45 => SineAndCosine(713250, 700909),
+        46 => SineAndCosine(725374, 688355),
+        47 => SineAndCosine(737277, 675590),
+        48 => SineAndCosine(748956, 662620),
+        49 => SineAndCosine(760406, 649448),
+        50 => SineAndCosine(771625, 636078),
+        51 => SineAndCosine(782608, 622515),
+        52 => SineAndCosine(793353, 608761),
+        53 => SineAndCosine(803857, 594823),
+        54 => SineAndCosine(814116, 580703),
+        55 => SineAndCosine(824126, 566406),
+        56 => SineAndCosine(833886, 551937),
+        57 => SineAndCosine(843391, 537300),
+        58 => SineAndCosine(852640, 522499),
+        59 => SineAndCosine(861629, 507538),
+        60 => SineAndCosine(870356, 492424),
+        61 => SineAndCosine(878817, 477159),
+        62 => SineAndCosine(887011, 461749),
+        63 => SineAndCosine(894934, 446198),
+        64 => SineAndCosine(902585, 430511),
+        65 => SineAndCosine(909961, 414693),
+        66 => SineAndCosine(917060, 398749),
+        67 => SineAndCosine(923880, 382683),
+        68 => SineAndCosine(930418, 366501),
+        69 => SineAndCosine(936672, 350207),
+        70 => SineAndCosine(942641, 333807),
+        71 => SineAndCosine(948324, 317305),
+        72 => SineAndCosine(953717, 300706),
+        73 => SineAndCosine(958820, 284015),
+        74 => SineAndCosine(963630, 267238),
+        75 => SineAndCosine(968148, 250380),
+        76 => SineAndCosine(972370, 233445),
+        77 => SineAndCosine(976296, 216440),
+        78 => SineAndCosine(979925, 199368),
+        79 => SineAndCosine(983255, 182236),
+        80 => SineAndCosine(986286, 165048),
+        81 => SineAndCosine(989016, 147809),
+        82 => SineAndCosine(991445, 130526),
+        83 => SineAndCosine(993572, 113203),
+        84 => SineAndCosine(995396, 95846),
+        85 => SineAndCosine(996917, 78459),
+        86 => SineAndCosine(998135, 61049),
+        87 => SineAndCosine(999048, 43619),
+        88 => SineAndCosine(999657, 26177),
+        89 => SineAndCosine(999962, 8727),
+        _ => SineAndCosine(0, 0),
+    }
+}
+
 // The size of the sine of x half degrees.
-fn size(x: u32) -> u64
+pub fn size(x: u32) -> u64
     ensures { λ r. ⌜ r ≡ size x ⌝ }
 {
     let y = x % 360;

@@ -87,7 +87,8 @@ use Rattle.pressure.proofs.SingleAnswers as pressure
 use Rattle.pressure.proofs.sea_level_pressure.Reads as pressure-sea-level-pressure
 use Rattle.pressure.proofs.station_pressure.Reads as pressure-station-pressure
 use Rattle.sine.proofs.SingleAnswers as sine
-use Rattle.sine.proofs.entry.Reads as sine-entry
+use Rattle.sine.proofs.mark.Reads as sine-mark
+use Rattle.sine.proofs.size.Reads as sine-size
 use Rattle.sine.proofs.sine.Reads as sine-sine
 use Rattle.sine.proofs.cosine.Reads as sine-cosine
 use Rattle.wind.proofs.SingleAnswers as wind
@@ -296,7 +297,8 @@ pub record OneAnswerEach : Type 0 where
   pub pressure-sea-level-pressure-single : Single pressure-sea-level-pressure.Post
   pub pressure-station-pressure-single : Single pressure-station-pressure.Post
   -- sine
-  pub sine-entry-single : Single sine-entry.Post
+  pub sine-mark-single : Single sine-mark.Post
+  pub sine-size-single : Single sine-size.Post
   pub sine-sine-single : Single sine-sine.Post
   pub sine-cosine-single : Single sine-cosine.Post
   -- wind
@@ -529,7 +531,8 @@ one-answer-each =
       store-number-single = store.single-number;
       pressure-sea-level-pressure-single = pressure.single-sea-level-pressure;
       pressure-station-pressure-single = pressure.single-station-pressure;
-      sine-entry-single = sine.single-entry;
+      sine-mark-single = sine.single-mark;
+      sine-size-single = sine.single-size;
       sine-sine-single = sine.single-sine;
       sine-cosine-single = sine.single-cosine;
       wind-true-wind-single = wind.single-true-wind;

@@ -27,7 +27,7 @@ use Rattle.cell.specs.declared.Recalled.the-variants.{Missing, Kept}
 use Rattle.block.specs.Words.{unitOf, windowOf}
 use Rattle.store.specs.Block.{recallIn, recallOf}
 use Rattle.store.specs.History.{isPresent}
-use Rattle.pressure.specs.Pressure.{barometerOf, inUnit, tenthsIn, isReading}
+use Rattle.pressure.specs.Pressure.{inUnit, tenthsIn}
 use Rattle.pressure.proofs.PressureTheorems.{own-unit}
 use Rattle.station.specs.Source.{first, second, inCelsius, inMetresPerSecond, inKnots, inDegrees}
 
@@ -101,12 +101,11 @@ module _ (s : List ℕ) (c m : ℕ) (low : c < CHANNELS) (there : isPresent (rec
       let other : soundBeside c v ≡ true = and-true (inside (limitsOf (unitOf s) c) (numberIn c v)) _ (kept .sound) .1 in
       rw is (rw two at other)
 
--- What channel 0 keeps is a reading of the block's barometer.
-pub is-reading : (s : List ℕ) (m : ℕ) → isPresent (recallOf s 0 m) ≡ true → isReading (barometerOf s) (first (recallOf s 0 m)) ≡ true
-is-reading s m there =
+-- What channel 0 keeps is in the unit of the block's barometer.
+pub in-its-unit : (s : List ℕ) (m : ℕ) → isPresent (recallOf s 0 m) ≡ true → inUnit (unitOf s) (first (recallOf s 0 m)) ≡ true
+in-its-unit s m there =
     let k = kept s 0 m (lit< tt) there in
-    let unit : inUnit (unitOf s) (first (recallOf s 0 m)) ≡ true = ap (λ (x : Recall). inUnit (unitOf s) (first x)) (k .is) ∙ own-unit (unitOf s) (pos (k .cell % 65536)) .0 in
-    rw (unit, first-inside s 0 m (lit< tt) there)
+    ap (λ (x : Recall). inUnit (unitOf s) (first x)) (k .is) ∙ own-unit (unitOf s) (pos (k .cell % 65536)) .0
 
 -- ---- what a recall comes to
 

@@ -17,7 +17,7 @@ use Rattle.message.specs.Receive.{Figure}
 use Rattle.block.specs.Words.{unitOf}
 use Rattle.store.specs.History.{isPresent}
 use Rattle.message.proofs.Keep.{pressure-size}
-use Rattle.pressure.specs.Pressure.{Barometer, tenthsIn, isReading, outside, seaLevel, seaLevelAnswer, stationPressure, stationAnswer, pressureAs}
+use Rattle.pressure.specs.Pressure.{Barometer, inUnit, tenthsIn, outside, seaLevel, seaLevelAnswer, stationPressure, stationAnswer, pressureAs}
 use Rattle.pressure.specs.declared.WorkedPressure.{WorkedPressure}
 use Rattle.pressure.specs.declared.WorkedPressure.the-variants.{Given, OutsideLimits, OutsideCertificate}
 use Rattle.pressure.proofs.SizeLaws.{sea-level-stored}
@@ -32,7 +32,7 @@ use Rattle.station.proofs.KeptLaws.{first-inside}
 
 -- ---- a worked pressure
 
--- a reading within its limits is refused 12 where it lies outside the certificate, and else gives the figure
+-- a reading in the barometer's unit is refused 12 where it lies outside the certificate, and else gives the figure
 abbrev pub Got : Bool → ℤ → WorkedPressure → Type 0
 Got isOutside z (Given p) = (isOutside ≡ false) × (p .0 .v ≡ z)
 Got isOutside z OutsideLimits = ⊥
@@ -46,8 +46,8 @@ got false z (Given p) e = (refl, cc)
 got false z OutsideLimits e = impossible (cc)
 got false z OutsideCertificate e = impossible (cc)
 
--- of what is a reading of the barometer
-module _ (b : Barometer) (f : Figure) (w : WorkedPressure) (shown : isReading b f ≡ true) where
+-- of what is in the barometer's unit
+module _ (b : Barometer) (f : Figure) (w : WorkedPressure) (shown : inUnit (b .unit) f ≡ true) where
   pub sea-level-got : (t : ℤ) → inside wheelhouse t ≡ true → pressureAs w ≡ seaLevelAnswer b f t
       → Got (outside b (tenthsIn (b .unit) f)) (seaLevel b (tenthsIn (b .unit) f) t) w
   unfolding seaLevelAnswer answer

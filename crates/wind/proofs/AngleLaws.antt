@@ -9,9 +9,9 @@ use lib.Dec.{leb, leb·suc-suc, leb·suc-zero}
 use lib.IntN.{pos, negℤ, subℕ, _*ℤ_}
 use lib.Signed.{leZ}
 use borrow.Author.Tests.{le-leb, lt-leb, leb-true}
-use Rattle.sine.specs.Sine.{entry, sine, cosine, Parts}
+use Rattle.sine.specs.Sine.{entry, size, sine, cosine, Parts}
 use Rattle.sine.proofs.TableLaws.{mounts, positive}
-use Rattle.sine.proofs.SineLaws.{sine-low, sine-high, cosine-low, cosine-high, parts-size}
+use Rattle.sine.proofs.SineLaws.{sine-low, sine-high, cosine-low, cosine-high, sine-size}
 use Rattle.wind.specs.Wind.{N, M, meets, count, between}
 use Rattle.wind.specs.Work.{leans}
 use Rattle.wind.proofs.BisectionLaws.{count-same, count-is, count-split, Falls}
@@ -122,6 +122,6 @@ module _ (s k r : ℕ) {up down : ℕ} (p : Parts (cosine (2 * r)) up down) wher
   pub N-astern : 1000000 * k + s * down ≤ s * up → N s k r ≡ negℤ (pos (s * up - (1000000 * k + s * down)))
   N-astern h = N-is ∙ sub-down (1000000 * k + s * down) (s * up) h
 
-pub M-is : (s r : ℕ) {up down : ℕ} → Parts (sine (2 * r)) up down → M s r ≡ pos (s * (up + down))
+pub M-is : (s r : ℕ) {n : ℕ} → n ≡ size (2 * r) → M s r ≡ pos (s * n)
 unfolding M
-M-is s r p = ap (λ (n : ℕ). pos (s * n)) (sym (parts-size (sine (2 * r)) p))
+M-is s r e = ap (λ (n : ℕ). pos (s * n)) (sine-size (2 * r) ∙ sym e)

@@ -73,7 +73,8 @@ fn leans(a: u64, b: u64, i: u32) -> bool
     requires { ⌜ (a ≤ mostSide) × (b ≤ mostSide) × (i < 90) ⌝ }
     ensures { λ r. ⌜ r ≡ leans a b i ⌝ }
 {
-    b * sine::entry(2 * i + 1) <= a * sine::entry(179 - 2 * i)
+    let m = sine::mark(i);
+    b * m.0 <= a * m.1
 }
 
 // How many marks of a quarter turn count, by bisection: seven turns.
@@ -97,8 +98,7 @@ fn angle(s: u64, k: u64, r: u32) -> u32
     ensures { λ a. ⌜ (a ≡ between s k r) × (a ≤ 180) ⌝ }
 {
     let c = sine::cosine(2 * r);
-    let n = sine::sine(2 * r);
-    let across = s * (n.up + n.down);
+    let across = s * sine::size(2 * r);
     let along = s * c.up;
     let ahead = 1000000 * k + s * c.down;
     if along < ahead {

@@ -102,12 +102,12 @@ total-word w at n l =
     place : (k : ℕ) → k < n → at % 64 + k ≡ (at + k) % 64
     place k lt = omega arith
 
--- a turn of the count
-pub total-step : (f : ℕ → ℕ) (at left n sum r all : ℕ) → n ≤ left → r ≡ total f at n → sum + total f at left ≡ all
-    → sum + r + total f (at + n) (left - n) ≡ all
-total-step f at left n sum r all l e h =
-    let s : total f at left ≡ total f at n + total f (at + n) (left - n) = ap (total f at) back ∙ total-add f at n (left - n) in
+-- a turn of the count, n minutes on
+pub total-on : (f : ℕ → ℕ) (from at n sum r : ℕ) → from ≤ at → sum ≡ total f from (at - from) → r ≡ total f at n
+    → sum + r ≡ total f from (at + n - from)
+total-on f from at n sum r l e h =
+    let there : from + (at - from) ≡ at = omega arith in
+    let on : at + n - from ≡ at - from + n = omega arith in
+    let s : total f from (at + n - from) ≡ total f from (at - from) + total f at n =
+    ap (total f from) on ∙ total-add f from (at - from) n ∙ ap (λ (x : ℕ). total f from (at - from) + total f x n) there in
     omega arith
-  where
-    back : left ≡ n + (left - n)
-    back = omega arith

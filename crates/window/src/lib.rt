@@ -73,31 +73,26 @@ fn ones_in(w: u64, o: u64, n: u64) -> u64
     u64::count_ones((w >> o) & (0xffff_ffff_ffff_ffff >> (64 - n))) as u64
 }
 
-// How many of the next `left` minutes from `at` on share a word with it.
-fn reach(at: u64, left: u64) -> u64
-    requires { ⌜ 0 < left ⌝ }
-    ensures { λ r. ⌜ (0 < r) × (r ≤ left) × (at % 64 + r ≤ 64) ⌝ }
-{
-    let m = 64 - at % 64;
-    if left < m { left } else { m }
-}
-
-// How many of the n minutes from `from` on have their bit set: whole words, masked to those minutes.
+// How many of the n minutes from `from` on have their bit set: the words that end among them, and then the part of one that is left,
+// each masked to those minutes.
 fn heard_among(window: &[u64], from: u64, n: u64) -> u64
-    requires { ⌜ (length (now window) ≡ WINDOW) × (from + n < 2 ^ 64) ⌝ }
+    requires { ⌜ (length (now window) ≡ WINDOW) × (from + n + 64 < 2 ^ 64) ⌝ }
     ensures { λ r. ⌜ (r ≡ total (bitOf (now (window .entry))) from n) × (r ≤ n) ⌝ }
 {
+    let to = from + n;
     let mut at = from;
-    let mut left = n;
     let mut sum: u64 = 0;
-    while left > 0 {
-        let m = reach(at, left);
+    while at + (64 - at % 64) <= to {
+        let o = at % 64;
         let i = word_of(at);
-        sum += ones_in(window[i], at % 64, m);
-        at += m;
-        left -= m;
+        sum += ones_in(window[i], o, 64 - o);
+        at += 64 - o;
     }
-    sum
+    if at == to {
+        return sum;
+    }
+    let i = word_of(at);
+    sum + ones_in(window[i], at % 64, to - at)
 }
 
 // Marks a minute as absent.

@@ -1,17 +1,17 @@
 -- `sea_level_pressure` meets its contract: refusal 7, then 12, then the sum, which fits. Assumes nothing.
-use mathlib.Core.Path.{sym, ap, _∙_}
+use mathlib.Core.Path.{_≡_, sym, ap, _∙_}
+use mathlib.Core.Bool.{true}
 use native.Mathlib.Omega.{arith}
 use denote.Ref.{now}
 use lib.Dec.{lit≤}
 use lib.IntN.{pos, negℤ, natAbs}
 use borrow.Author.Tests.{not-true, not-false}
 use Rattle.number.proofs.Sizes.{within-size}
-use Rattle.quantity.specs.Limits.{wheelhouse}
+use Rattle.quantity.specs.Limits.{inside, wheelhouse}
 use Rattle.settings.proofs.HoldsLaws.{kept-inside}
-use Rattle.message.proofs.Keep.{pressure-size}
-use Rattle.pressure.specs.Pressure.{barometerOf}
-use Rattle.pressure.proofs.SizeLaws.{scale-stored}
-use Rattle.pressure.proofs.AnswerLaws.{none-there, worked, sea-limits, sea-limits-2, sea-outside, sea-given}
+use Rattle.pressure.specs.Pressure.{barometerOf, inUnit, readingAs}
+use Rattle.pressure.proofs.SizeLaws.{scale-stored, certified-stored}
+use Rattle.pressure.proofs.AnswerLaws.{none-there, worked, sea-unit, sea-limits, sea-outside, sea-given}
 use borrow.Author.Needs.{needs}
 use Rattle.pressure.proofs.sea_level_pressure.Statement.{statement}
 use Rattle.pressure.proofs.sea_level_pressure.Tie as tie
@@ -20,40 +20,40 @@ use Rattle.pressure.proofs.corrected.Reads as corrected-reads
 use Rattle.pressure.proofs.rounded_once.Reads as rounded-once-reads
 use Rattle.pressure.proofs.scale_correction.Reads as scale-correction-reads
 use Rattle.pressure.proofs.tenths_in.Reads as tenths-in-reads
-use Rattle.quantity.proofs.BarometerUnit.holds.Reads as BarometerUnit-holds-reads
-use Rattle.quantity.proofs.WheelhouseTemperature.holds.Reads as WheelhouseTemperature-holds-reads
+use Rattle.pressure.proofs.in_unit.Reads as in-unit-reads
+use Rattle.quantity.proofs.WheelhouseTemperature.holds.Reads as holds-reads
 use Rattle.block.proofs.unit.Reads as unit-reads
 
 unit-requires : tie.Need-unit-requires
 unit-requires c κs = search needs
 
-tenths-in-requires : tie.Need-tenths-in-requires
-tenths-in-requires c κs = search needs
-
-holds-requires : tie.Need-holds-requires
-holds-requires c κs = search needs
+in-unit-requires : tie.Need-in-unit-requires
+in-unit-requires c κs = search needs
 
 returns : tie.Need-returns
 returns c =
-    let read = c .before .before .before in
-    let start = read .before .before in
-    sea-limits (barometerOf (now (start .args .store))) (start .args .reading) (read .before .unit .ensures) (read .tenths-in .ensures) (start .args .wheelhouse .0 .v)
-    (sym (c .before .holds .ensures) ∙ not-true _ (c .if1 .taken))
+    let at = c .before .before .before in
+    let start = at .before in
+    sea-unit (barometerOf (now (start .args .store))) (start .args .reading) (at .unit .ensures) (start .args .wheelhouse .0 .v)
+    (sym (c .before .in-unit .ensures) ∙ not-true _ (c .if1 .taken))
 
 number-requires : tie.Need-number-requires
 number-requires c κs = search needs
 
-holds-requires-2 : tie.Need-holds-requires-2
-holds-requires-2 c κs = search needs
+holds-requires : tie.Need-holds-requires
+holds-requires c κs = search needs
 
 returns-2 : tie.Need-returns-2
 returns-2 c =
     let first = c .before .before .before in
-    let read = first .before .before .before in
-    let start = read .before .before in
-    sea-limits-2 (barometerOf (now (start .args .store))) (start .args .reading) (read .before .unit .ensures) (read .tenths-in .ensures) (start .args .wheelhouse .0 .v)
-    (sym (first .before .holds .ensures) ∙ not-false _ (first .if1 .left))
-    (kept-inside wheelhouse (c .before .holds2 .ensures) (c .before .before .number .ensures .value) (not-true _ (c .if2 .taken)))
+    let at = first .before .before .before in
+    let start = at .before in
+    sea-limits (barometerOf (now (start .args .store))) (start .args .reading) (at .unit .ensures) (start .args .wheelhouse .0 .v)
+    (sym (first .before .in-unit .ensures) ∙ not-false _ (first .if1 .left))
+    (kept-inside wheelhouse (c .before .holds .ensures) (c .before .before .number .ensures .value) (not-true _ (c .if2 .taken)))
+
+tenths-in-requires : tie.Need-tenths-in-requires
+tenths-in-requires c κs = search needs
 
 scale-correction-requires : tie.Need-scale-correction-requires
 scale-correction-requires c κs = search needs
@@ -64,20 +64,34 @@ enum-told c = search needs
 enum-known-scale : tie.Need-enum-known-scale
 enum-known-scale c = search needs
 
+-- a reading in the barometer's unit at a temperature within its limits, as both were tested
+module _ (c : tie.After-tenths-in) where
+  abbrev second : tie.Else2
+  second = c .before
+
+  abbrev first : tie.Else1
+  first = second .before .before .before
+
+  abbrev read : tie.After-unit
+  read = first .before .before .before
+
+  in-unit : inUnit (read .unit .result) (readingAs (read .before .args .reading)) ≡ true
+  in-unit = sym (first .before .in-unit .ensures) ∙ not-false _ (first .if1 .left)
+
+  warmth : inside wheelhouse (read .before .args .wheelhouse .0 .v) ≡ true
+  warmth = kept-inside wheelhouse (second .before .holds .ensures) (second .before .before .number .ensures .value) (not-false _ (second .if2 .left))
+
 corrected-requires : tie.Need-corrected-requires
 corrected-requires c κs =
-    let at = c .before .before .before .before in
-    let first = at .before .before .before in
-    let read = first .before .before .before in
-    let start = read .before .before in
-    let r = read .tenths-in .result .v in
-    let i = sym (first .before .holds .ensures) ∙ not-false _ (first .if1 .left) in
-    let j = kept-inside wheelhouse (at .before .holds2 .ensures) (at .before .before .number .ensures .value) (not-false _ (at .if2 .left)) in
-    let s = barometerOf (now (start .args .store)) in
-    let w = worked s r (c .before .scale .given .1) (c .before .before .before .scale-correction .ensures) in (
-      omega (arith, pressure-size (read .before .unit .result) r i),
-      omega (arith, ap natAbs (w .is), scale-stored (now (start .args .store)) r),
-      within-size (negℤ (pos 400)) (pos 600) (start .args .wheelhouse .0 .v) 600 (lit≤ tt) (lit≤ tt) j,
+    let scaled = c .before .before .before in
+    let at = scaled .before in
+    let start = read at .before in
+    let r = at .tenths-in .result .v in
+    let s = now (start .args .store) in
+    let w = worked (barometerOf s) r (c .before .scale .given .1) (scaled .scale-correction .ensures) in (
+      certified-stored s r (w .there),
+      omega (arith, ap natAbs (w .is), scale-stored s r),
+      within-size (negℤ (pos 400)) (pos 600) (start .args .wheelhouse .0 .v) 600 (lit≤ tt) (lit≤ tt) (warmth at),
     )
 
 rounded-once-requires : tie.Need-rounded-once-requires
@@ -85,30 +99,21 @@ rounded-once-requires c κs = search needs
 
 returns-3 : tie.Need-returns-3
 returns-3 c =
-    let at = c .before .before .before in
-    let first = at .before .before .before in
-    let read = first .before .before .before in
-    let start = read .before .before in
-    let r = read .tenths-in .result .v in
-    let i = sym (first .before .holds .ensures) ∙ not-false _ (first .if1 .left) in
-    let j = kept-inside wheelhouse (at .before .holds2 .ensures) (at .before .before .number .ensures .value) (not-false _ (at .if2 .left)) in
+    let scaled = c .before .before in
+    let at = scaled .before in
+    let start = read at .before in
     let s = barometerOf (now (start .args .store)) in
-    sea-outside s (start .args .reading) (read .before .unit .ensures) (read .tenths-in .ensures) (start .args .wheelhouse .0 .v) i j
-    (none-there s r (c .enum-told .given .1) (c .before .before .scale-correction .ensures))
+    sea-outside s (start .args .reading) (read at .unit .ensures) (at .tenths-in .ensures) (start .args .wheelhouse .0 .v) (in-unit at) (warmth at)
+    (none-there s (at .tenths-in .result .v) (c .enum-told .given .1) (scaled .scale-correction .ensures))
 
 returns-4 : tie.Need-returns-4
 returns-4 c =
-    let at = c .before .before .before .before .before .before in
-    let first = at .before .before .before in
-    let read = first .before .before .before in
-    let start = read .before .before in
-    let r = read .tenths-in .result .v in
-    let i = sym (first .before .holds .ensures) ∙ not-false _ (first .if1 .left) in
-    let j = kept-inside wheelhouse (at .before .holds2 .ensures) (at .before .before .number .ensures .value) (not-false _ (at .if2 .left)) in
+    let scaled = c .before .before .before .before .before in
+    let at = scaled .before in
+    let start = read at .before in
     let s = barometerOf (now (start .args .store)) in
-    let scale = c .before .before .before in
-    sea-given s (start .args .reading) (read .before .unit .ensures) (read .tenths-in .ensures) (start .args .wheelhouse .0 .v) i j
-    (worked s r (scale .scale .given .1) (scale .before .before .scale-correction .ensures))
+    sea-given s (start .args .reading) (read at .unit .ensures) (at .tenths-in .ensures) (start .args .wheelhouse .0 .v) (in-unit at) (warmth at)
+    (worked s (at .tenths-in .result .v) (c .before .before .before .scale .given .1) (scaled .scale-correction .ensures))
     (c .before .corrected .ensures .value) (c .rounded-once .ensures)
 
 pub sea-level-pressure-spec : {M : Type 1} → statement M
@@ -116,12 +121,12 @@ sea-level-pressure-spec =
     tie.close
     (tie.spec
     unit-requires
-    tenths-in-requires
-    holds-requires
+    in-unit-requires
     returns
     number-requires
-    holds-requires-2
+    holds-requires
     returns-2
+    tenths-in-requires
     scale-correction-requires
     enum-told
     enum-known-scale

@@ -1,27 +1,14 @@
 -- `entry` meets its contract: each arm is the list's entry, by computing; past the last there is none. Assumes nothing.
 use mathlib.Core.Path.{_≡_, sym, ap}
-use Prim.Native.Nat.{ℕ, zero, suc, _≤_}
-use native.Mathlib.Omega.{arith}
-use lib.ListN.{length, List·getD-eq-default}
+use Prim.Native.Nat.{ℕ}
 use Rattle.sine.specs.Sines.{sines}
 use Rattle.sine.specs.Sine.{entry}
+use Rattle.sine.proofs.ArmLaws.{none-past, past}
 use Rattle.sine.proofs.entry.Statement.{statement}
 use Rattle.sine.proofs.entry.Tie as tie
 
 arm : {i k : ℕ} → i ≡ k → entry k ≡ entry i
 arm e = sym (ap (λ (n : ℕ). entry n) e)
-
--- i is none of the numbers below n
-abbrev None : ℕ → ℕ → Type 0
-None i zero = Unit
-None i (suc n) = None i n × (i ≡ n → ⊥)
-
-none-past : (i n : ℕ) → None i n → n ≤ i
-none-past i zero none = omega arith
-none-past i (suc n) none = omega (arith, none-past i n (none .0), none .1)
-
-past : (i : ℕ) → length sines ≤ i → 0 ≡ entry i
-past i h = sym (List·getD-eq-default sines 0 h)
 
 pub entry-spec : {M : Type 1} → statement M
 unfolding sines

@@ -28,7 +28,7 @@ use Rattle.station.specs.Parts.{Shows}
 use Rattle.station.specs.declared.Shown.{Shown}
 use Rattle.station.specs.declared.Shown.the-variants as shown
 use Rattle.station.proofs.AnswerLaws.{no-store, too-late, both-pass, pass, stop}
-use Rattle.station.proofs.KeptLaws.{first-inside, is-reading, not-kept, is-kept, no-other}
+use Rattle.station.proofs.KeptLaws.{first-inside, in-its-unit, not-kept, is-kept, no-other}
 use Rattle.station.proofs.PressureLaws.{Got, station-got}
 use Rattle.station.proofs.HumidityLaws.{asked, moisture-told, moisture-of}
 use borrow.Author.Needs.{needs}
@@ -100,7 +100,7 @@ pressed-is c w e =
     let found = c .before .before in
     let x = shown-is (read found) in
     let b = barometerOf (s (at found)) in
-    station-got b (first (recallOf (s (at found)) 0 (m (at found)))) w (is-reading (s (at found)) (m (at found)) (x .0))
+    station-got b (first (recallOf (s (at found)) 0 (m (at found)))) w (in-its-unit (s (at found)) (m (at found)) (x .0))
     (sym (ap pressureAs e) ∙ c .station-pressure .ensures ∙ ap (stationAnswer b) (sym (x .1)))
 
 -- and what both bulbs came to

@@ -19,7 +19,7 @@ use Rattle.station.specs.Parts.{Shows}
 use Rattle.station.specs.declared.Shown.{Shown}
 use Rattle.station.specs.declared.Shown.the-variants as shown
 use Rattle.station.proofs.AnswerLaws.{pass, stop, end}
-use Rattle.station.proofs.KeptLaws.{first-inside, is-reading, not-kept, is-kept, no-other}
+use Rattle.station.proofs.KeptLaws.{first-inside, in-its-unit, not-kept, is-kept, no-other}
 use Rattle.station.proofs.PressureLaws.{Got, sea-level-got}
 use borrow.Author.Needs.{needs}
 use Rattle.station.proofs.sea_level_at.Statement.{statement}
@@ -59,7 +59,7 @@ module _ (c : tie.After-sea-level-pressure) where
       let m = a .minute in
       let x = shown-is read in
       let t = warmth-is found in
-      sea-level-got (barometerOf s) (first (recallOf s 0 m)) w (is-reading s m (x .0)) (inCelsius (recallOf s 1 m)) (first-inside s 1 m (lit< tt) (ap isPresent t))
+      sea-level-got (barometerOf s) (first (recallOf s 0 m)) w (in-its-unit s m (x .0)) (inCelsius (recallOf s 1 m)) (first-inside s 1 m (lit< tt) (ap isPresent t))
       (sym (ap pressureAs e) ∙ c .sea-level-pressure .ensures ∙ ap₂ (seaLevelAnswer (barometerOf s)) (sym (x .1)) (sym (ap inCelsius t)))
 
 barometer-at-requires : tie.Need-barometer-at-requires

@@ -3,8 +3,7 @@ use mathlib.Core.Path.{sym, ap, _∙_}
 use Prim.Native.Nat.{ℕ, _+_, _*_, _≤_}
 use native.Mathlib.Nat.{mul-le-mul}
 use native.Mathlib.Omega.{arith}
-use Rattle.sine.specs.Sine.{sine}
-use Rattle.sine.proofs.SineLaws.{parts-size, sine-small}
+use Rattle.sine.proofs.SineLaws.{size-small}
 use Rattle.wind.specs.Work.{mostShip, mostApparent}
 use Rattle.wind.proofs.SpeedLaws.{cosine-most}
 use Rattle.wind.proofs.AngleLaws.{N-ahead, N-astern, M-is, angle-ahead, angle-astern}
@@ -12,7 +11,7 @@ use borrow.Author.Needs.{needs}
 use Rattle.wind.proofs.angle.Statement.{statement}
 use Rattle.wind.proofs.angle.Tie as tie
 use Rattle.sine.proofs.cosine.Reads as cosine-reads
-use Rattle.sine.proofs.sine.Reads as sine-reads
+use Rattle.sine.proofs.size.Reads as size-reads
 use Rattle.wind.proofs.quarter.Reads as quarter-reads
 
 -- the products, in their limits
@@ -23,13 +22,12 @@ record Bounds (s k sines up down : ℕ) : Type 0 where
   against : s * down ≤ mostShip * 1000000
   wind : k ≤ mostApparent
 
-bounds : (c : tie.After-sine) → Bounds (c .before .before .args .s) (c .before .before .args .k) (c .sine .result .up + c .sine .result .down) (c .before .cosine .result .up) (c .before .cosine .result .down)
+bounds : (c : tie.After-size) → Bounds (c .before .before .args .s) (c .before .before .args .k) (c .size .result) (c .before .cosine .result .up) (c .before .cosine .result .down)
 bounds c =
     let a = c .before .before .args in
     let ship = c .before .before .pre .0 in
-    let size = parts-size (sine (2 * a .r)) (c .sine .ensures) in
     let most = cosine-most (a .s) (a .k) (a .r) (c .before .cosine .ensures) in
-    let sines : c .sine .result .up + c .sine .result .down ≤ 1000000 = omega (arith, sine-small (2 * a .r)) in
+    let sines : c .size .result ≤ 1000000 = omega (arith, c .size .ensures, size-small (2 * a .r)) in
     record {
       size = sines;
       across = mul-le-mul ship sines;
@@ -44,55 +42,52 @@ mul-cosine c = search needs
 cosine-requires : tie.Need-cosine-requires
 cosine-requires c κs = search needs
 
-mul-sine : tie.Need-mul-sine
-mul-sine c = search needs
+mul-size : tie.Need-mul-size
+mul-size c = search needs
 
-sine-requires : tie.Need-sine-requires
-sine-requires c κs = search needs
-
-add-across : tie.Need-add-across
-add-across c = omega (arith, bounds (c .before))
+size-requires : tie.Need-size-requires
+size-requires c κs = search needs
 
 mul-across : tie.Need-mul-across
-mul-across c = omega (arith, bounds (c .before))
+mul-across c = omega (arith, bounds c)
 
 mul-along : tie.Need-mul-along
-mul-along c = omega (arith, bounds (c .before .before))
+mul-along c = omega (arith, bounds (c .before))
 
 mul-ahead : tie.Need-mul-ahead
 mul-ahead c = search needs
 
 mul-ahead-2 : tie.Need-mul-ahead-2
-mul-ahead-2 c = omega (arith, bounds (c .before .before .before))
+mul-ahead-2 c = omega (arith, bounds (c .before .before))
 
 add-ahead : tie.Need-add-ahead
-add-ahead c = omega (arith, bounds (c .before .before .before))
+add-ahead c = omega (arith, bounds (c .before .before))
 
 sub-quarter : tie.Need-sub-quarter
 sub-quarter c = search needs
 
 quarter-requires : tie.Need-quarter-requires
-quarter-requires c κs = omega (arith, bounds (c .before .before .before .before))
+quarter-requires c κs = omega (arith, bounds (c .before .before .before))
 
 returns : tie.Need-returns
 returns c =
-    let both = c .before .before .before .before .before in
+    let both = c .before .before .before .before in
     let a = both .before .before .args in
     let ahead = N-ahead (a .s) (a .k) (a .r) (both .before .cosine .ensures) (omega (arith, c .before .if1 .taken)) in
-    (c .quarter .ensures .0 ∙ sym (angle-ahead (a .s) (a .k) (a .r) _ _ (M-is (a .s) (a .r) (both .sine .ensures)) ahead (omega (arith, c .before .if1 .taken))), omega arith)
+    (c .quarter .ensures .0 ∙ sym (angle-ahead (a .s) (a .k) (a .r) _ _ (M-is (a .s) (a .r) (both .size .ensures)) ahead (omega (arith, c .before .if1 .taken))), omega arith)
 
 quarter-requires-2 : tie.Need-quarter-requires-2
-quarter-requires-2 c κs = omega (arith, bounds (c .before .before .before .before))
+quarter-requires-2 c κs = omega (arith, bounds (c .before .before .before))
 
 add-result : tie.Need-add-result
 add-result c = search needs
 
 returns-2 : tie.Need-returns-2
 returns-2 c =
-    let both = c .before .before .before .before .before in
+    let both = c .before .before .before .before in
     let a = both .before .before .args in
     let astern = N-astern (a .s) (a .k) (a .r) (both .before .cosine .ensures) (c .before .if1 .left) in
-    (ap (λ (n : ℕ). 90 + n) (c .quarter2 .ensures .0) ∙ sym (angle-astern (a .s) (a .k) (a .r) _ _ (M-is (a .s) (a .r) (both .sine .ensures)) astern), omega arith)
+    (ap (λ (n : ℕ). 90 + n) (c .quarter2 .ensures .0) ∙ sym (angle-astern (a .s) (a .k) (a .r) _ _ (M-is (a .s) (a .r) (both .size .ensures)) astern), omega arith)
 
 pub angle-spec : {M : Type 1} → statement M
 angle-spec =
@@ -100,9 +95,8 @@ angle-spec =
     (tie.spec
     mul-cosine
     cosine-requires
-    mul-sine
-    sine-requires
-    add-across
+    mul-size
+    size-requires
     mul-across
     mul-along
     mul-ahead

@@ -9,53 +9,28 @@ use Rattle.wind.specs.Work.{mostSide, leans}
 use borrow.Author.Needs.{needs}
 use Rattle.wind.proofs.leans.Statement.{statement}
 use Rattle.wind.proofs.leans.Tie as tie
-use Rattle.sine.proofs.entry.Reads as entry-reads
+use Rattle.sine.proofs.mark.Reads as mark-reads
 
 product : (i : ℕ) {x r : ℕ} → x ≤ mostSide → r ≡ entry i → x * r ≤ mostSide * 1000000
 product i {x} {r} h e = mul-le-mul {m₂ = 1000000} h (omega (arith, small i))
 
-mul-entry : tie.Need-mul-entry
-mul-entry c = search needs
-
-add-entry : tie.Need-add-entry
-add-entry c = search needs
-
-entry-requires : tie.Need-entry-requires
-entry-requires c κs = search needs
+mark-requires : tie.Need-mark-requires
+mark-requires c κs = search needs
 
 mul-result : tie.Need-mul-result
-mul-result c = omega (arith, product _ (c .before .pre .1) (c .entry .ensures))
-
-mul-entry-2 : tie.Need-mul-entry-2
-mul-entry-2 c = search needs
-
-sub-entry : tie.Need-sub-entry
-sub-entry c = search needs
-
-entry-requires-2 : tie.Need-entry-requires-2
-entry-requires-2 c κs = search needs
+mul-result c = let at = c .before in omega (arith, product _ (at .before .pre .1) (at .mark .ensures .0))
 
 mul-result-2 : tie.Need-mul-result-2
-mul-result-2 c = omega (arith, product _ (c .before .before .pre .0) (c .entry2 .ensures))
+mul-result-2 c = let at = c .before .before in omega (arith, product _ (at .before .pre .0) (at .mark .ensures .1))
 
 returns : tie.Need-returns
 unfolding leans
 returns c =
-    let i = c .before .before .args .i in
-    let by-sine : c .before .entry .result ≡ entry (2 * i + 1) = c .before .entry .ensures in
-    let by-cosine : c .entry2 .result ≡ entry (179 - 2 * i) = c .entry2 .ensures in
+    let at = c .before .before in
+    let i = at .before .args .i in
+    let by-sine : at .mark .result .0 ≡ entry (2 * i + 1) = at .mark .ensures .0 in
+    let by-cosine : at .mark .result .1 ≡ entry (179 - 2 * i) = at .mark .ensures .1 in
     rw (← by-sine, ← by-cosine)
 
 pub leans-spec : {M : Type 1} → statement M
-leans-spec =
-    tie.close
-    (tie.spec
-    mul-entry
-    add-entry
-    entry-requires
-    mul-result
-    mul-entry-2
-    sub-entry
-    entry-requires-2
-    mul-result-2
-    returns)
+leans-spec = tie.close (tie.spec mark-requires mul-result mul-result-2 returns)
