@@ -93,10 +93,14 @@ use Rattle.sine.proofs.sine.Reads as sine-sine
 use Rattle.sine.proofs.cosine.Reads as sine-cosine
 use Rattle.wind.proofs.SingleAnswers as wind
 use Rattle.wind.proofs.true_wind.Reads as wind-true-wind
+use Rattle.rows.proofs.SingleAnswers as rows
+use Rattle.rows.proofs.entry_of_901.Reads as rows-entry-of-901
+use Rattle.rows.proofs.entry_of_401.Reads as rows-entry-of-401
 use Rattle.vapour.proofs.SingleAnswers as vapour
 use Rattle.vapour.proofs.saturation.Reads as vapour-saturation
 use Rattle.vapour.proofs.saturation_over_ice.Reads as vapour-saturation-over-ice
 use Rattle.vapour.proofs.dew_point.Reads as vapour-dew-point
+use Rattle.vapour.proofs.is_dew_point.Reads as vapour-is-dew-point
 use Rattle.vapour.proofs.VapourPressure.holds.Reads as vapour-VapourPressure-holds
 use Rattle.vapour.proofs.relative_humidity.Reads as vapour-relative-humidity
 use Rattle.vapour.proofs.deficit.Reads as vapour-deficit
@@ -303,10 +307,14 @@ pub record OneAnswerEach : Type 0 where
   pub sine-cosine-single : Single sine-cosine.Post
   -- wind
   pub wind-true-wind-single : Single wind-true-wind.Post
+  -- rows
+  pub rows-entry-of-901-single : Single rows-entry-of-901.Post
+  pub rows-entry-of-401-single : Single rows-entry-of-401.Post
   -- vapour
   pub vapour-saturation-single : Single vapour-saturation.Post
   pub vapour-saturation-over-ice-single : Single vapour-saturation-over-ice.Post
   pub vapour-dew-point-single : Single vapour-dew-point.Post
+  pub vapour-is-dew-point-single : Single vapour-is-dew-point.Post
   pub vapour-VapourPressure-holds-single : Single vapour-VapourPressure-holds.Post
   pub vapour-relative-humidity-single : Single vapour-relative-humidity.Post
   pub vapour-deficit-single : Single vapour-deficit.Post
@@ -536,9 +544,12 @@ one-answer-each =
       sine-sine-single = sine.single-sine;
       sine-cosine-single = sine.single-cosine;
       wind-true-wind-single = wind.single-true-wind;
+      rows-entry-of-901-single = rows.single-entry-of-901;
+      rows-entry-of-401-single = rows.single-entry-of-401;
       vapour-saturation-single = vapour.single-saturation;
       vapour-saturation-over-ice-single = vapour.single-over-ice;
       vapour-dew-point-single = vapour.single-dew-point;
+      vapour-is-dew-point-single = vapour.single-is-dew-point;
       vapour-VapourPressure-holds-single = vapour.single-vapour-pressure;
       vapour-relative-humidity-single = vapour.single-relative-humidity;
       vapour-deficit-single = vapour.single-deficit;

@@ -1,15 +1,17 @@
 -- A pressure has one dew point among all tenths, since saturation rises: a later tenth's lower half tenth is at or over an
 -- earlier one's upper. And a dew point is shown by one test of the series at each half tenth. Assumes nothing.
-use mathlib.Core.Path.{_≡_}
-use mathlib.Core.Bool.{Bool, _&&_}
-use Prim.Native.Nat.{ℕ, _+_, _*_, _-_, _<_}
+use mathlib.Core.Path.{_≡_, refl, sym, subst, _∙_}
+use mathlib.Core.Bool.{Bool, true, false, _&&_}
+use Prim.Native.Nat.{ℕ, zero, suc, _+_, _*_, _-_, _<_, _≤_}
 use native.Mathlib.Omega.{arith}
 use native.Mathlib.Decide.{decLt}
-use lib.Dec.{T}
+use lib.Dec.{T, leb, ltb}
 use lib.Ieee.Fits.{and-l, and-r}
-use lib.IntN.{ℤ, pos, negℤ, _+ℤ_, _-ℤ_, _*ℤ_}
-use Rattle.vapour.specs.Vapour.{Below, DewPoint, water}
-use Rattle.vapour.specs.Tables.{tenth, Least}
+use lib.IntN.{ℤ, pos, negsuc, negℤ, _+ℤ_, _-ℤ_, _*ℤ_}
+use borrow.Author.Tests.{leb-false, ltb-true, ltb-false}
+use Rattle.quantity.specs.Limits.{inside, bulb}
+use Rattle.vapour.specs.Vapour.{Below, DewPoint, TellsDew, lowestVapour, highestVapour, recordedVapour, water}
+use Rattle.vapour.specs.Tables.{tenth, Least, Reaches}
 use Rattle.vapour.proofs.UpDown.{up, down, then-le, same, of-sum, of-times, of-difference}
 use Rattle.vapour.proofs.Bracket.{bracket, shows}
 use Rattle.vapour.proofs.SaturationLaws.{lower, rises, real-water}
@@ -72,10 +74,60 @@ least-by-test i r passed =
       short = λ e h. lower water (r - 1) 1 (under (tenth i)) e (omega arith) (b .low);
     }
 
--- what lies below saturation half a tenth under the next place lies below it half a tenth over this one
-pub next : (e i : ℕ) → Below water (under (tenth (i + 1))) e 1 → Below water (over (tenth i)) e 1
-next e i b =
-    rises water e 1 real-water (under (tenth (i + 1))) (over (tenth i))
-    (then-le (under (tenth (i + 1))) (over (tenth i))
-    (omega (arith, under-is (tenth (i + 1)), over-is (tenth i), of-difference (i + 1) 400, of-difference i 400)))
-    b
+-- half a tenth under the next place is half a tenth over this one
+halfway : (i : ℕ) → under (tenth (i + 1)) ≡ over (tenth i)
+halfway i =
+    same (under (tenth (i + 1))) (over (tenth i))
+    (omega (arith, under-is (tenth (i + 1)), over-is (tenth i), of-difference (i + 1) 400, of-difference i 400))
+
+-- so a dew point is where e reaches a place and not the next
+pub between : (e i : ℕ) → Reaches e i → Below water (under (tenth (i + 1))) e 1 → DewPoint e (tenth i)
+between e i a b = record { reached = a; short = subst (λ (t : ℤ). Below water t e 1) (halfway i) b }
+
+pub not-next : (e i : ℕ) → Reaches e (i + 1) → DewPoint e (tenth i) → ⊥
+not-next e i a d = a (subst (λ (t : ℤ). Below water t e 1) (sym (halfway i)) (d .short))
+
+-- ---- the ends: every e of the range reaches -40.0, and none 50.1
+
+pub first : (e : ℕ) → lowestVapour ≤ e → Reaches e 0
+unfolding least-test
+first e h = least-by-test 0 lowestVapour tt .reached e h
+
+pub last : (e : ℕ) → e ≤ highestVapour → Below water (under (tenth 901)) e 1
+unfolding least-test
+last e h = least-by-test 901 12376 tt .short e (omega arith)
+
+-- so a place that e does not reach is not the first
+pub not-first : (e i : ℕ) → lowestVapour ≤ e → Below water (under (tenth i)) e 1 → 0 < i
+not-first e zero h b = absurd (first e h b)
+not-first e (suc i) h b = omega arith
+
+-- and one that e reaches is one of the table's
+pub reaches-inside : (e i : ℕ) → e ≤ highestVapour → i ≤ 901 → Reaches e i → i < 901
+reaches-inside e i h l a =
+    elim (decLt i 901) [
+      | yes y ↦ y
+      | no n ↦ let is : i ≡ 901 = omega arith in absurd (a (rw is (last e h)))
+    ]
+
+-- and no dew point lies outside the table
+and-left : (b : Bool) → (b && true) ≡ b
+and-left true = refl
+and-left false = refl
+
+pub outside : (e : ℕ) (t : ℤ) → lowestVapour ≤ e → e ≤ highestVapour → inside bulb t ≡ false → DewPoint e t → ⊥
+outside e (pos n) l h out d =
+    let far : 500 < n = leb-false n 500 out in
+    d .reached (rises water e 1 real-water (under (tenth 901)) (under (pos n)) (then-le (under (tenth 901)) (under (pos n)) (omega (arith, under-is (pos n)))) (last e h))
+outside e (negsuc n) l h out d =
+    let far : 399 < n = leb-false n 399 (sym (and-left (leb n 399)) ∙ out) in
+    first e l (rises water e 1 real-water (over (negsuc n)) (under (tenth 0)) (then-le (over (negsuc n)) (under (tenth 0)) (omega (arith, over-is (negsuc n)))) (d .short))
+
+-- ---- whether a tenth is the dew point of e: at a place that e reaches, by the threshold r of the next
+
+pub tells : (e i r : ℕ) → recordedVapour e ≡ true → Reaches e i → Least (i + 1) r → TellsDew e (tenth i) (ltb e r)
+tells e i r range a least = go (ltb e r) refl
+  where
+    go : (b : Bool) → ltb e r ≡ b → TellsDew e (tenth i) b
+    go true h = (range, between e i a (least .short e (ltb-true e r h)))
+    go false h = λ in-range d. not-next e i (least .reached e (ltb-false e r h)) d

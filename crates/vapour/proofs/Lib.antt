@@ -4,6 +4,7 @@ pub mod Series
 pub mod Bracket
 pub mod SaturationLaws
 pub mod DewLaws
+pub mod ThresholdLaws
 pub mod TableLaws
 pub mod RangeLaws
 pub mod SingleAnswers

@@ -1,6 +1,6 @@
 -- What the range of e and of saturation says of them, and relative humidity in it. Assumes nothing.
 use mathlib.Core.Path.{_≡_}
-use mathlib.Core.Bool.{true}
+use mathlib.Core.Bool.{Bool, true, false}
 use Prim.Native.Nat.{ℕ, _*_, _≤_, _<_}
 use native.Mathlib.Nat.{mul-le-mul-left, mul-le-mul-right}
 use native.Mathlib.Omega.{arith}
@@ -8,8 +8,12 @@ use lib.Dec.{leb}
 use borrow.Author.Tests.{leb-true, le-leb, ne-eqb}
 use Rattle.number.specs.Round.{nearest}
 use Rattle.number.proofs.RoundLaws.{nearest-monotone, nearest-whole}
-use Rattle.number.proofs.Sizes.{and-true}
+use Rattle.number.proofs.Sizes.{and-true, impossible}
 use Rattle.vapour.specs.Vapour.{lowestVapour, highestVapour, recordedVapour, relativeHumidity}
+
+-- a test has one answer
+pub not-both : {b : Bool} → b ≡ true → b ≡ false → ⊥
+not-both p q = impossible (cc)
 
 pub in-range : (n : ℕ) → lowestVapour ≤ n → n ≤ highestVapour → recordedVapour n ≡ true
 in-range n l h = rw (le-leb lowestVapour n l, le-leb n highestVapour h)

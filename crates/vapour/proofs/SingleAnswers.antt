@@ -6,8 +6,7 @@ use lib.IntN.{ℤ}
 use Rattle.number.specs.Single.{Single}
 use Rattle.number.specs.declared.Kept.{Kept}
 use Rattle.number.proofs.SingleAnswers.{kept-by}
-use Rattle.number.proofs.Sizes.{impossible}
-use Rattle.vapour.specs.Vapour.{AreSaturations, IsOverIce, IsDew, water, ice}
+use Rattle.vapour.specs.Vapour.{AreSaturations, IsOverIce, IsDew, TellsDew, water, ice}
 use Rattle.vapour.specs.declared.VapourPressure.{VapourPressure}
 use Rattle.vapour.specs.declared.DewTemperature.{DewTemperature}
 use Rattle.vapour.specs.declared.Saturations.{Saturations}
@@ -18,9 +17,11 @@ use Rattle.vapour.specs.declared.Dew.{Dew}
 use Rattle.vapour.specs.declared.Dew.the-variants.{Point, OutsideRange}
 use Rattle.vapour.proofs.SaturationLaws.{near-one}
 use Rattle.vapour.proofs.DewLaws.{dew-one}
+use Rattle.vapour.proofs.RangeLaws.{not-both}
 use Rattle.vapour.proofs.saturation.Reads as saturation
 use Rattle.vapour.proofs.saturation_over_ice.Reads as over-ice
 use Rattle.vapour.proofs.dew_point.Reads as dew-point
+use Rattle.vapour.proofs.is_dew_point.Reads as is-dew-point
 use Rattle.vapour.proofs.VapourPressure.holds.Reads as vapour-pressure
 use Rattle.vapour.proofs.relative_humidity.Reads as relative-humidity
 use Rattle.vapour.proofs.deficit.Reads as deficit
@@ -36,9 +37,6 @@ dew-by e = ap make (kept-by e)
   where
     make : Kept → DewTemperature
     make k = record { 0 = k }
-
-not-both : {b : Bool} → b ≡ true → b ≡ false → ⊥
-not-both p q = impossible (cc)
 
 pub one-saturation : (dry wet : ℤ) (r r′ : Saturations) → AreSaturations dry wet r → AreSaturations dry wet r′ → r ≡ r′
 one-saturation dry wet (Entries d w) (Entries d′ w′) p q =
@@ -61,6 +59,12 @@ one-dew e (Point t) OutsideRange p q = absurd (not-both (p .0) q)
 one-dew e OutsideRange (Point t) p q = absurd (not-both (q .0) p)
 one-dew e OutsideRange OutsideRange p q = refl
 
+pub one-telling : (e : ℕ) (t : ℤ) (r r′ : Bool) → TellsDew e t r → TellsDew e t r′ → r ≡ r′
+one-telling e t true true p q = refl
+one-telling e t true false p q = absurd (q (p .0) (p .1))
+one-telling e t false true p q = absurd (p (q .0) (q .1))
+one-telling e t false false p q = refl
+
 pub single-saturation : Single saturation.Post
 single-saturation κs a r r′ s s′ p q = one-saturation _ _ r r′ p q
 
@@ -69,6 +73,9 @@ single-over-ice κs a r r′ s s′ p q = one-over-ice _ r r′ p q
 
 pub single-dew-point : Single dew-point.Post
 single-dew-point κs a r r′ s s′ p q = one-dew _ r r′ p q
+
+pub single-is-dew-point : Single is-dew-point.Post
+single-is-dew-point κs a r r′ s s′ p q = one-telling _ _ r r′ p q
 
 pub single-vapour-pressure : Single vapour-pressure.Post
 single-vapour-pressure κs a r r′ s s′ p q = p ∙ sym q

@@ -12,13 +12,12 @@ use borrow.Author.Tests.{leb-true, le-leb, le-ltb, lt-ltb}
 use Rattle.number.proofs.Sizes.{and-true}
 use Rattle.quantity.specs.Limits.{inside, bulb, frost}
 use Rattle.vapour.specs.Vapour.{Formula, Near, AreSaturations, lowestVapour, highestVapour, water}
-use Rattle.vapour.specs.Tables.{tenth, EntriesAt, Least}
+use Rattle.vapour.specs.Tables.{tenth, EntriesAt}
 use Rattle.vapour.specs.declared.Saturations.{Saturations}
 use Rattle.vapour.specs.declared.Saturations.the-variants.{Entries, OutsideTable}
 use Rattle.vapour.proofs.EachEntry.{every, at}
 use Rattle.vapour.proofs.UpDown.{up, down, of-difference}
 use Rattle.vapour.proofs.SaturationLaws.{near-test, near-by-test, table-rises}
-use Rattle.vapour.proofs.DewLaws.{least-test, least-by-test}
 
 -- the entry at a place, shut, so that a law finds the list in a goal: `rw entry-is`, then a law on `entry _ _`
 pub entry : List ℕ → ℕ → ℕ
@@ -36,10 +35,6 @@ entry-test f i r = near-test f (tenth i) r
 pub near-at : (f : Formula) (xs : List ℕ) (k : ℕ) → T (every (entry-test f) 0 xs) → k < length xs → Near f (tenth k) (entry xs k)
 unfolding entry entry-test
 near-at f xs k passed h = near-by-test f (tenth k) (getD xs k 0) (at (entry-test f) xs passed k h)
-
-pub least-at : (xs : List ℕ) (k : ℕ) → T (every least-test 0 xs) → k < length xs → Least k (entry xs k)
-unfolding entry
-least-at xs k passed h = least-by-test k (getD xs k 0) (at least-test xs passed k h)
 
 -- the first and the last entry, and so the range of all
 first-entry : Near water (bulb .low) lowestVapour

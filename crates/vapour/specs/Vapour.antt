@@ -86,6 +86,11 @@ abbrev pub IsDew : ℕ → Dew → Type 0
 IsDew e (Point t) = (recordedVapour e ≡ true) × DewPoint e (t .0 .v)
 IsDew e OutsideRange = recordedVapour e ≡ false
 
+-- Whether t is the dew point of e in that range.
+abbrev pub TellsDew : ℕ → ℤ → Bool → Type 0
+TellsDew e t true = (recordedVapour e ≡ true) × DewPoint e t
+TellsDew e t false = recordedVapour e ≡ true → DewPoint e t → ⊥
+
 -- "Relative humidity: 100 e / table(dry), rounded to 1 %." No saturation of the table is 0; of a saturation of 0 it is 0.
 abbrev pub relativeHumidity : ℕ → ℕ → ℕ
 relativeHumidity e saturation = cond (eqb saturation 0) 0 (nearest (100 * e) saturation)

@@ -3,14 +3,13 @@ ghost use mathlib.Core.Path.{_≡_};
 ghost use mathlib.Core.Bool.{true};
 ghost use Prim.Native.Nat.{_<_, _≤_};
 ghost use Rattle.quantity.specs.Limits.{inside, bulb};
-ghost use Rattle.vapour.specs.Vapour.{Near, ice, AreSaturations, IsOverIce, lowestVapour, highestVapour, recordedVapour, IsDew, DewPoint, relativeHumidity, vapourDeficit};
-ghost use Rattle.vapour.specs.Tables.{tenth, EntriesAt, Thresholds};
+ghost use Rattle.vapour.specs.Vapour.{Near, water, ice, AreSaturations, IsOverIce, lowestVapour, highestVapour, recordedVapour, IsDew, TellsDew, DewPoint, relativeHumidity, vapourDeficit};
+ghost use Rattle.vapour.specs.Tables.{tenth, EntriesAt, Least, IsRow, Reaches, goneOf};
 use number::Kept;
 use number::Number;
 use quantity::BulbTemperature;
 use tables::ICE_SATURATION;
 use tables::SATURATION;
-use tables::THRESHOLDS;
 
 mod tables;
 
@@ -64,21 +63,22 @@ fn place(t: Number) -> usize
     above.size() as usize
 }
 
-// An entry as it is handed out.
-fn hundredths(entry: u16) -> VapourPressure
-    ensures { λ r. ⌜ r .0 ≡ entry ⌝ }
+// The entry at a place of the table over water.
+fn entry_over_water(i: usize) -> VapourPressure
+    requires { ⌜ i < 901 ⌝ }
+    ensures { λ r. ⌜ Near water (tenth i) (r .0) ⌝ }
 {
-    VapourPressure(entry as u32)
+    let table = SATURATION;
+    VapourPressure(rows::entry_of_901(&table, i) as u32)
 }
 
-// The entries at two places, from one read of the table.
+// The entries at two places.
 fn entries(i: usize, j: usize) -> Saturations
     requires { ⌜ (i < 901) × (j < 901) ⌝ }
     ensures { λ r. ⌜ EntriesAt i j r ⌝ }
 {
-    let table = SATURATION;
-    let d = hundredths(table[i]);
-    let w = hundredths(table[j]);
+    let d = entry_over_water(i);
+    let w = entry_over_water(j);
     Saturations::Entries(d, w)
 }
 
@@ -103,7 +103,7 @@ fn entry_over_ice(i: usize) -> VapourPressure
     ensures { λ r. ⌜ Near ice (tenth i) (r .0) ⌝ }
 {
     let table = ICE_SATURATION;
-    hundredths(table[i])
+    VapourPressure(rows::entry_of_401(&table, i) as u32)
 }
 
 // Saturation over ice at a bulb, where it lies within the table.
@@ -117,23 +117,113 @@ pub fn saturation_over_ice(bulb: BulbTemperature) -> OverIce
     OverIce::Entry(entry_over_ice(place(t)))
 }
 
-// The place of the dew point of e: the last place whose threshold e reaches, by bisection.
-fn dew_place(table: &[u16; 902], e: u16) -> u32
-    requires { ⌜ (lowestVapour ≤ e) × (e ≤ highestVapour) × Thresholds (now table) ⌝ }
+// A cubic curve over a stretch of length 1: where it starts, its slope, its bend and its twist, in 65536ths.
+struct Curve(u32, u32, u32, u32);
+
+// How far a curve has gone from its start, w 65536ths of its stretch on.
+fn gone(curve: Curve, w: u64) -> u64
+    requires { ⌜ w < 65536 ⌝ }
+    ensures { λ r. ⌜ r ≡ goneOf curve w ⌝ }
+{
+    let turned = w * (curve.3 as u64) / 65536;
+    let bent = w * ((curve.2 as u64) + turned) / 65536;
+    w * ((curve.1 as u64) + bent) / 65536
+}
+
+// The thresholds of the 64 places from 64 n: cut to whole hundredths, the curve is at each the least that reaches the place.
+// So it is for the 960 places from -40.0 to 55.9 °C. The comments say where a row starts.
+fn row(n: u32) -> Curve
+    requires { ⌜ n < 15 ⌝ }
+    ensures { λ r. ⌜ IsRow n r ⌝ }
+{
+    match n {
+        0 => Curve(1_292_744, 817_423, 254_142, 45_738), // -40.0 °C
+        1 => Curve(2_409_226, 1_501_805, 336_979, 127_212), // -33.6 °C
+        2 => Curve(4_374_998, 2_541_770, 680_203, 112_218), // -27.2 °C
+        3 => Curve(7_710_210, 4_266_022, 1_002_702, 221_234), // -20.8 °C
+        4 => Curve(13_194_609, 6_901_357, 1_598_964, 257_590), // -14.4 °C
+        5 => Curve(21_951_759, 10_887_639, 2_394_317, 335_407), // -8.0 °C
+        6 => Curve(35_572_172, 16_710_741, 3_493_177, 455_607), // -1.6 °C
+        7 => Curve(56_237_165, 25_081_381, 4_944_574, 607_634), // 4.8 °C
+        8 => Curve(86_873_960, 36_848_515, 6_824_426, 823_651), // 11.2 °C
+        9 => Curve(131_370_655, 53_018_013, 9_282_664, 1_077_282), // 17.6 °C
+        10 => Curve(194_748_397, 74_895_956, 12_332_390, 1_441_673), // 24.0 °C
+        11 => Curve(283_409_992, 103_853_934, 16_463_350, 1_654_117), // 30.4 °C
+        12 => Curve(405_381_108, 141_787_370, 21_415_625, 2_006_087), // 36.8 °C
+        13 => Curve(570_588_165, 190_693_438, 27_443_827, 2_410_738), // 43.2 °C
+        _ => Curve(791_142_025, 252_847_418, 34_794_211, 2_826_141), // 49.6 °C
+    }
+}
+
+// The threshold of a place: the least pressure that reaches it.
+fn threshold(i: u32) -> u64
+    requires { ⌜ i < 960 ⌝ }
+    ensures { λ r. ⌜ Least i r ⌝ }
+{
+    let curve = row(i / 64);
+    let further = gone(curve, 1024 * ((i % 64) as u64));
+    ((curve.0 as u64) + further) / 65536
+}
+
+// The curve near which the dew points of the pressures with so many leading zeros lie, in places: it starts at twice the pressure in
+// the comment, and goes down to that pressure.
+fn octave(zeros: u32) -> Curve {
+    match zeros {
+        27 => Curve(3_453_586, 3_346_820, 567_466, 502_911), // 0.16 hPa
+        26 => Curve(8_200_087, 3_617_578, 488_175, 640_160), // 0.32 hPa
+        25 => Curve(13_289_341, 3_876_530, 539_716, 673_494), // 0.64 hPa
+        24 => Curve(18_763_107, 4_169_664, 588_432, 715_040), // 1.28 hPa
+        23 => Curve(24_666_304, 4_500_089, 638_342, 763_514), // 2.56 hPa
+        22 => Curve(31_051_354, 4_872_853, 691_888, 818_667), // 5.12 hPa
+        21 => Curve(37_979_680, 5_294_707, 750_843, 880_848), // 10.24 hPa
+        20 => Curve(45_523_656, 5_774_240, 816_754, 950_815), // 20.48 hPa
+        19 => Curve(53_769_132, 6_322_239, 891_189, 1_029_655), // 40.96 hPa
+        _ => Curve(62_924_544, 7_518_172, 54_623, 1_584_422), // 81.92 hPa
+    }
+}
+
+// A guess at the place of the dew point of e, by the curve for its leading bit: of the pressures within the limits 2.7 in 100 lie one
+// place beside it, the others at it. Whatever the guess, the search that starts at it ends at the right place.
+fn guess(e: u32) -> u32
+    ensures { λ r. ⌜ r < 901 ⌝ }
+{
+    let zeros = u32::leading_zeros(e);
+    let curve = octave(zeros);
+    let w = 65535 - (e << (zeros % 32)) / 32768 % 65536;
+    let from = curve.0 as u64;
+    let down = gone(curve, w as u64);
+    if from < down {
+        return 0;
+    }
+    let i = (from - down) / 65536;
+    if 900 < i {
+        return 900;
+    }
+    i as u32
+}
+
+// A place that e reaches: the guess, or the next below it that e reaches.
+fn start(e: u32) -> u32
+    requires { ⌜ lowestVapour ≤ e ⌝ }
+    ensures { λ r. ⌜ (r < 901) × Reaches e r ⌝ }
+{
+    let mut i = guess(e);
+    while (e as u64) < threshold(i) {
+        i = i - 1;
+    }
+    i
+}
+
+// The place of the dew point of e: the last place whose threshold e reaches.
+fn dew_place(e: u32) -> u32
+    requires { ⌜ (lowestVapour ≤ e) × (e ≤ highestVapour) ⌝ }
     ensures { λ r. ⌜ (r < 901) × DewPoint e (tenth r) ⌝ }
 {
-    let mut low: usize = 0;
-    let mut high: usize = 901;
-    while low + 1 < high {
-        let middle = low + (high - low) / 2;
-        let threshold = table[middle];
-        if threshold <= e {
-            low = middle;
-        } else {
-            high = middle;
-        }
+    let mut i = start(e);
+    while threshold(i + 1) <= (e as u64) {
+        i = i + 1;
     }
-    low as u32
+    i
 }
 
 // The dew point of e, where it is within its limits.
@@ -144,10 +234,28 @@ pub fn dew_point(e: VapourPressure) -> Dew
     if !VapourPressure::holds(pressure) {
         return Dew::OutsideRange;
     }
-    let table = THRESHOLDS;
-    let i = dew_place(&table, pressure as u16);
+    let i = dew_place(pressure);
     let t = Number::whole(i).minus(Number { v: 400 });
     Dew::Point(DewTemperature(t.keep()))
+}
+
+// Whether t is the dew point of e, where e is within its limits.
+pub fn is_dew_point(e: VapourPressure, t: DewTemperature) -> bool
+    ensures { λ r. ⌜ TellsDew (e .0) (t .0 .v) r ⌝ }
+{
+    let pressure = e.0;
+    if !VapourPressure::holds(pressure) {
+        return false;
+    }
+    let tenths = t.0.number();
+    if !BulbTemperature::holds(tenths) {
+        return false;
+    }
+    let i = place(tenths) as u32;
+    if (pressure as u64) < threshold(i) {
+        return false;
+    }
+    (pressure as u64) < threshold(i + 1)
 }
 
 // The relative humidity of air with e at a saturation, rounded to 1 %; 0 where there is no saturation.

@@ -14,10 +14,10 @@ use lib.IntN.{ℤ, pos, negsuc}
 use borrow.Author.Tests.{le-ltb, lt-ltb, le-leb}
 use Rattle.quantity.specs.Limits.{inside, bulb}
 use Rattle.vapour.specs.Exp.{top, bottom}
-use Rattle.vapour.specs.Vapour.{Below, DewPoint, lowestVapour, recordedVapour, water}
-use Rattle.vapour.specs.Tables.{tenth, Least}
+use Rattle.vapour.specs.Vapour.{Below, DewPoint, recordedVapour, water}
+use Rattle.vapour.specs.Tables.{tenth, Least, Reaches}
 use Rattle.vapour.proofs.RangeLaws.{range-then}
-use Rattle.vapour.proofs.DewLaws.{under, least-test, least-by-test, next}
+use Rattle.vapour.proofs.DewLaws.{under, least-test, least-by-test, between, first, last}
 
 -- ---- the least hundredth at each tenth
 
@@ -59,26 +59,18 @@ least-is i h = least-by-test i (least i) (each 902 i all h)
 
 -- ---- the last tenth whose hundredth e reaches
 
-scan : (e n : ℕ) → n < 902 → (Below water (under (tenth 0)) e 1 → ⊥) → Below water (under (tenth n)) e 1 → (i : ℕ) × (i < n) × DewPoint e (tenth i)
-scan e zero h first b = absurd (first b)
-scan e (suc n) h first b =
+scan : (e n : ℕ) → n < 902 → Reaches e 0 → Below water (under (tenth n)) e 1 → (i : ℕ) × (i < n) × DewPoint e (tenth i)
+scan e zero h a b = absurd (a b)
+scan e (suc n) h a b =
     elim (decLe (least n) e) [
-      | yes l ↦ (n, omega arith, record { reached = least-is n (omega arith) .reached e l; short = next e n (rw (add-one n) b) })
+      | yes l ↦ (n, omega arith, between e n (least-is n (omega arith) .reached e l) (rw (add-one n) b))
       | no l ↦
-          let r = scan e n (omega arith) first (least-is n (omega arith) .short e (lt-of-not-le l)) in (r .0, omega (arith, r .1), r .2)
+          let r = scan e n (omega arith) a (least-is n (omega arith) .short e (lt-of-not-le l)) in (r .0, omega (arith, r .1), r .2)
     ]
-
-ends : (e : ℕ) → recordedVapour e ≡ true → (Below water (under (tenth 0)) e 1 → ⊥) × Below water (under (tenth 901)) e 1
-unfolding least
-ends e h =
-    let r = range-then e h in
-    let first : least 0 ≡ lowestVapour = refl in
-    let last : least 901 ≡ 12376 = refl in
-    (least-is 0 (omega arith) .reached e (omega arith), least-is 901 (omega arith) .short e (omega arith))
 
 -- the place of a dew point
 pub dew-place : (e : ℕ) → recordedVapour e ≡ true → (i : ℕ) × (i < 901) × DewPoint e (tenth i)
-dew-place e h = scan e 901 (omega arith) (ends e h .0) (ends e h .1)
+dew-place e h = let r = range-then e h in scan e 901 (omega arith) (first e (r .0)) (last e (r .1))
 
 -- every tenth of the table is a bulb's
 pub tenth-inside : (i : ℕ) → i < 901 → inside bulb (tenth i) ≡ true

@@ -1,16 +1,20 @@
 -- The dew point as a rule of e: there is one, any two agree on each e that a file may hold, and it lies within a bulb's limits.
 -- A pressure has one dew point (vapour's law), and each of these has one (DewExists). Assumes nothing.
-use mathlib.Core.Path.{_≡_, refl}
-use mathlib.Core.Bool.{Bool, true, false}
+use mathlib.Core.Path.{_≡_, refl, sym, subst}
+use mathlib.Core.Bool.{Bool, true, false, _&&_}
 use Prim.Native.Nat.{ℕ}
-use lib.IntN.{ℤ, pos}
+use native.Mathlib.Nat.{le-refl}
+use native.Mathlib.Omega.{arith}
+use lib.Dec.{T}
+use lib.IntN.{ℤ, pos, negsuc}
+use lib.Signed.{leZ}
+use borrow.Author.Tests.{le-leb}
 use Rattle.number.specs.Whole.{within}
-use Rattle.number.proofs.Sizes.{impossible}
+use Rattle.number.proofs.Sizes.{impossible, and-true}
 use Rattle.quantity.specs.Limits.{inside, bulb}
-use Rattle.vapour.specs.Vapour.{DewPoint, recordedVapour, IsDew}
-use Rattle.vapour.specs.declared.Dew.the-variants.{Point, OutsideRange}
-use Rattle.vapour.specs.declared.DewTemperature.{DewTemperature}
+use Rattle.vapour.specs.Vapour.{DewPoint, recordedVapour, TellsDew}
 use Rattle.vapour.specs.Tables.{tenth}
+use Rattle.vapour.proofs.UpDown.{le-then, same}
 use Rattle.vapour.proofs.DewLaws.{dew-one}
 use Rattle.watchfile.specs.Rules.{dewRight}
 use Rattle.watchfile.specs.Format.{DewRule}
@@ -41,13 +45,28 @@ pub rule-within : (rule : ℕ → ℤ) → DewRule rule → (e : ℕ) → record
 rule-within rule ruled e h =
     let d = dew-place e h in rw (dew-one e (rule e) (tenth (d .0)) (ruled e h) (d .2)) (tenth-inside (d .0) (d .1))
 
--- ---- what vapour's answer says of a rule
+-- ---- what vapour's test says of a rule
 
 module _ (rule : ℕ → ℤ) (ruled : DewRule rule) (e : ℕ) (z : ℤ) where
-  pub point-right : (t : DewTemperature) → IsDew e (Point t) → within (t .0 .v) (t .0 .v) z ≡ dewRight rule e z
-  unfolding dewRight
-  point-right t d = rw (d .0, dew-one e (rule e) (t .0 .v) (ruled e (d .0)) (d .1))
+  -- a number within itself and itself is that number
+  only : (a : ℤ) → within a a z ≡ true → a ≡ z
+  only a h =
+      let both = and-true (leZ a z) (leZ z a) h in
+      same a z (omega (arith, le-then a z (record { le = subst T (sym (both .0)) tt }), le-then z a (record { le = subst T (sym (both .1)) tt })))
 
-  pub outside-right : IsDew e OutsideRange → false ≡ dewRight rule e z
+  itself : within z z z ≡ true
+  itself = go z
+    where
+      go : (a : ℤ) → within a a a ≡ true
+      go (pos n) = simp (le-leb n n (le-refl n))
+      go (negsuc n) = simp (le-leb n n (le-refl n))
+
+  pub test-right : (b : Bool) → TellsDew e z b → b ≡ dewRight rule e z
   unfolding dewRight
-  outside-right d = rw d
+  test-right true d = rw (d .0, dew-one e (rule e) z (ruled e (d .0)) (d .1), itself)
+  test-right false d = go (recordedVapour e) (within (rule e) (rule e) z) refl refl
+    where
+      go : (r w : Bool) → recordedVapour e ≡ r → within (rule e) (rule e) z ≡ w → false ≡ (recordedVapour e && within (rule e) (rule e) z)
+      go false w h k = rw h
+      go true false h k = rw (h, k)
+      go true true h k = absurd (d h (subst (DewPoint e) (only (rule e) k) (ruled e h)))

@@ -11,7 +11,7 @@ use quantity::Degrees;
 use quantity::Hectopascals;
 use quantity::MetresPerSecond;
 use quantity::Minute;
-use vapour::Dew;
+use vapour::DewTemperature;
 use vapour::VapourPressure;
 
 // What a record holds, by its kind: the fields as the file stores them.
@@ -223,13 +223,7 @@ pub fn relative_right(e: u16, saturation: u16, relative: u8) -> bool
 pub fn dew_right(e: u16, dew: Kept) -> bool
     ensures { λ r. ⌜ ((rule : ℕ → ℤ) → DewRule rule → r ≡ dewRight rule e (dew .v)) ⌝ }
 {
-    match vapour::dew_point(VapourPressure(e as u32)) {
-        Dew::Point(t) => {
-            let point = t.0.number();
-            dew.number().within(point, point)
-        }
-        Dew::OutsideRange => false,
-    }
+    vapour::is_dew_point(VapourPressure(e as u32), DewTemperature(dew))
 }
 
 // Whether a body of tendency may stand in a file.

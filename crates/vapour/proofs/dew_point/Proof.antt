@@ -1,4 +1,4 @@
--- `dew_point` meets its contract: one test over all thresholds, and the place less 400 is the tenth. Assumes nothing.
+-- `dew_point` meets its contract: the place less 400 is the tenth. Assumes nothing.
 use mathlib.Core.Path.{_≡_, sym, ap, subst, _∙_}
 use mathlib.Core.Bool.{true}
 use Prim.Native.Nat.{_≤_}
@@ -6,8 +6,6 @@ use native.Mathlib.Omega.{arith}
 use lib.IntN.{ℤ, pos, natAbs, _-ℤ_}
 use borrow.Author.Tests.{not-true, not-false}
 use Rattle.vapour.specs.Vapour.{DewPoint, lowestVapour, highestVapour, recordedVapour}
-use Rattle.vapour.proofs.TableLaws.{entry-is, least-at}
-use Rattle.vapour.proofs.DewLaws.{least-test}
 use Rattle.vapour.proofs.RangeLaws.{range-then}
 use borrow.Author.Needs.{needs}
 use Rattle.vapour.proofs.dew_point.Statement.{statement}
@@ -30,14 +28,8 @@ holds-requires c κs = search needs
 returns : tie.Need-returns
 returns c = sym (c .before .holds .ensures) ∙ not-true _ (c .if1 .taken)
 
-cast-dew-place : tie.Need-cast-dew-place
-cast-dew-place c = record { fits = omega (arith, limits (c .before)) }
-
 dew-place-requires : tie.Need-dew-place-requires
-unfolding least-test
-dew-place-requires c κs =
-    let l = limits (c .before) in
-    (l .0, l .1, λ i h. rw entry-is (least-at _ _ tt h))
+dew-place-requires c κs = limits c
 
 whole-requires : tie.Need-whole-requires
 whole-requires c κs = search needs
@@ -51,9 +43,9 @@ keep-requires c κs = omega (arith, ap natAbs (c .before .whole .ensures .value)
 returns-2 : tie.Need-returns-2
 returns-2 c =
     let place = c .before .before .before in
-    let e = place .before .before .before .before .args .e .0 in
+    let e = place .before .before .before .args .e .0 in
     let t = c .keep .ensures ∙ c .before .minus .ensures .value ∙ ap (λ (z : ℤ). z -ℤ pos 400) (c .before .before .whole .ensures .value) in
-    (within (place .before .before), subst (DewPoint e) (sym t) (place .dew-place .ensures .1))
+    (within (place .before), subst (DewPoint e) (sym t) (place .dew-place .ensures .1))
 
 pub dew-point-spec : {M : Type 1} → statement M
 dew-point-spec =
@@ -61,7 +53,6 @@ dew-point-spec =
     (tie.spec
     holds-requires
     returns
-    cast-dew-place
     dew-place-requires
     whole-requires
     minus-requires
