@@ -87,13 +87,13 @@ int main(void)
         return 1;
     say_humidity("humidity by an iced bulb", iced);
 
-    zhitomrak_records records = {{
+    zhitomrak_record records[] = {
         {ZHITOMRAK_TENDENCY, 230, (int32_t)tendency.change, (int32_t)tendency.absent, 0, 0, 0},
         {ZHITOMRAK_PRESSURE, 240, (int32_t)pressure.pressure, 0, 0, 0, 0},
         {ZHITOMRAK_WIND, 240, (int32_t)wind.speed, (int32_t)wind.direction, 0, 0, 0},
         {ZHITOMRAK_HUMIDITY, 240, (int32_t)humidity.e, (int32_t)humidity.saturation, (int32_t)humidity.deficit, (int32_t)humidity.relative,
          humidity.dew},
-    }};
+    };
     uint8_t file[ZHITOMRAK_FILE];
     zhitomrak_written short_of_room = zhitomrak_write(file, 10, records, 4);
     printf("write: refused %" PRIu32 ", %zu bytes needed\n", short_of_room.number, short_of_room.bytes);
@@ -101,7 +101,8 @@ int main(void)
     printf("written: %zu bytes\n", written.bytes);
 
     zhitomrak_file read = zhitomrak_read(file, written.bytes);
-    printf("read: %zu records, the last of minute %" PRIu32 "\n", read.count, read.records.all[read.count - 1].minute);
+    zhitomrak_record last = zhitomrak_record_at(file, written.bytes, read.count - 1);
+    printf("read: %zu records, the last of minute %" PRIu32 "\n", read.count, last.minute);
     uint8_t text[ZHITOMRAK_TEXT];
     zhitomrak_listed no_room = zhitomrak_list(file, written.bytes, text, 10);
     printf("list: refused %" PRIu32 ", %zu bytes needed\n", no_room.number, no_room.bytes);

@@ -8,8 +8,8 @@
  * What the caller owes, and the library cannot see:
  *   1. A pointer to a store is not null, is aligned for uint64_t, and points to the ZHITOMRAK_WORDS words of a zhitomrak_store that
  *      may be read, and written where the pointer is not const.
- *   2. A pointer with a length is not null (also where the length is 0) and points to that many bytes that may be read, and written
- *      where the pointer is not const; a length is at most PTRDIFF_MAX.
+ *   2. A pointer with a length or a number is not null (also where that is 0), is aligned for its type, and points to that many bytes,
+ *      words or records that may be read, and written where the pointer is not const; a length is at most PTRDIFF_MAX.
  *   3. During a call nothing else writes what the pointers of that call point to, and nothing else reads what the call may write.
  *      So what a call may write overlaps nothing else of that call; two threads may ask one store at once, and none may hear then.
  *   4. The functions are called with the C calling convention of x86-64 Linux, with the types declared here.
@@ -164,19 +164,19 @@ typedef struct {
 } zhitomrak_record;
 
 typedef struct {
-    zhitomrak_record all[ZHITOMRAK_RECORDS];
-} zhitomrak_records;
-
-typedef struct {
     uint32_t number; /* 0, or 18 */
     size_t place;    /* of 18, else 0 */
     size_t count;    /* how many records, 0 beside 18 */
-    zhitomrak_records records; /* all zeros behind the last */
 } zhitomrak_file;
 
-/* Reads a watch file: its records; or 18, file broken, with the place: the first byte of the first wrong field, the file's length
- * where a field is cut short, or the first extra byte. */
+/* Reads a watch file: how many records it has; or 18, file broken, with the place: the first byte of the first wrong field, the file's
+ * length where a field is cut short, or the first extra byte. */
 zhitomrak_file zhitomrak_read(const uint8_t *file, size_t length);
+
+/* The record with this index, counted from 0, of a file that zhitomrak_read found good. Of any other bytes it is what stands there: the
+ * row of the contents with this index, and the body of its kind at the offset that the row names, whether their fields are right or
+ * not. All is 0 where the contents do not count so many, the kind is none, or row or body do not lie in the file. */
+zhitomrak_record zhitomrak_record_at(const uint8_t *file, size_t length, size_t index);
 
 typedef struct {
     uint32_t number; /* 0, 16 or 17 */
@@ -184,11 +184,18 @@ typedef struct {
     size_t bytes;    /* of the file that was written, or needed where 17 */
 } zhitomrak_written;
 
-/* Writes the first `count` records as a watch file at the start of the buffer, and leaves the bytes behind it. Or the first of
- * these whose reason holds, and every byte stays: 16, a record breaks the file rules, or is the 49th, with the index of the first
- * such, from 0 (a kind that is none and a figure that does not fit its bytes break the rules); 17, the buffer is too short, with
- * the bytes needed. A count above 48 looks at the 48 records that there are. */
-zhitomrak_written zhitomrak_write(uint8_t *buffer, size_t length, zhitomrak_records records, size_t count);
+/* Writes records as a watch file at the start of the buffer, and leaves the bytes behind it. Or the first of these whose reason holds,
+ * and every byte stays: 16, a record breaks the file rules, or is the 49th, with the index of the first such, from 0 (a kind that is
+ * none and a figure that does not fit its bytes break the rules); 17, the buffer is too short, with the bytes needed. The records are
+ * lent as words of 32 bits, seven a record in the order of its fields; words that are too few for one more record are not looked at. */
+zhitomrak_written zhitomrak_write_words(uint8_t *buffer, size_t length, const uint32_t *records, size_t words);
+
+/* The same of `count` records. No more than the first 49 are looked at. */
+static inline zhitomrak_written zhitomrak_write(uint8_t *buffer, size_t length, const zhitomrak_record *records, size_t count)
+{
+    size_t some = count < ZHITOMRAK_RECORDS + 1 ? count : ZHITOMRAK_RECORDS + 1;
+    return zhitomrak_write_words(buffer, length, (const uint32_t *)records, some * (sizeof(zhitomrak_record) / sizeof(uint32_t)));
+}
 
 typedef struct {
     uint32_t number; /* 0 or 17 */

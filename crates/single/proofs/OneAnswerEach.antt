@@ -207,8 +207,8 @@ use Rattle.zhitomrak.proofs.zhitomrak_tendency.Reads as zhitomrak-zhitomrak-ten
 use Rattle.zhitomrak.proofs.zhitomrak_wind.Reads as zhitomrak-zhitomrak-wind
 use Rattle.zhitomrak.proofs.zhitomrak_humidity.Reads as zhitomrak-zhitomrak-humidity
 use Rattle.zhitomrak.proofs.zhitomrak_read.Reads as zhitomrak-zhitomrak-read
-use Rattle.zhitomrak.proofs.zhitomrak_record.Reads as zhitomrak-zhitomrak-record
-use Rattle.zhitomrak.proofs.zhitomrak_write.Reads as zhitomrak-zhitomrak-write
+use Rattle.zhitomrak.proofs.zhitomrak_record_at.Reads as zhitomrak-zhitomrak-record-at
+use Rattle.zhitomrak.proofs.zhitomrak_write_words.Reads as zhitomrak-zhitomrak-write-words
 use Rattle.zhitomrak.proofs.zhitomrak_list.Reads as zhitomrak-zhitomrak-list
 
 pub record OneAnswerEach : Type 0 where
@@ -452,9 +452,9 @@ pub record OneAnswerEach : Type 0 where
   pub zhitomrak-zhitomrak-wind-single : Single zhitomrak-zhitomrak-wind.Post
   pub zhitomrak-zhitomrak-humidity-single : Single zhitomrak-zhitomrak-humidity.Post
   pub zhitomrak-zhitomrak-read-single : Single zhitomrak-zhitomrak-read.Post
-  pub zhitomrak-zhitomrak-record-single : Single zhitomrak-zhitomrak-record.Post
-  pub zhitomrak-zhitomrak-write-single : Single zhitomrak-zhitomrak-write.Post
-  pub zhitomrak-zhitomrak-write-left : SingleLeft zhitomrak-zhitomrak-write.Post (λ κs s. s .0 .now)
+  pub zhitomrak-zhitomrak-record-at-single : Single zhitomrak-zhitomrak-record-at.Post
+  pub zhitomrak-zhitomrak-write-words-single : Single zhitomrak-zhitomrak-write-words.Post
+  pub zhitomrak-zhitomrak-write-words-left : SingleLeft zhitomrak-zhitomrak-write-words.Post (λ κs s. s .0 .now)
   pub zhitomrak-zhitomrak-list-single : Single zhitomrak-zhitomrak-list.Post
   pub zhitomrak-zhitomrak-list-left : SingleLeft zhitomrak-zhitomrak-list.Post (λ κs s. s .1 .0 .now)
 
@@ -669,9 +669,9 @@ one-answer-each =
       zhitomrak-zhitomrak-wind-single = zhitomrak.single-wind;
       zhitomrak-zhitomrak-humidity-single = zhitomrak.single-humidity;
       zhitomrak-zhitomrak-read-single = zhitomrak.single-read;
-      zhitomrak-zhitomrak-record-single = zhitomrak.single-record;
-      zhitomrak-zhitomrak-write-single = zhitomrak.single-write;
-      zhitomrak-zhitomrak-write-left = zhitomrak.single-write-left;
+      zhitomrak-zhitomrak-record-at-single = zhitomrak.single-record;
+      zhitomrak-zhitomrak-write-words-single = zhitomrak.single-write;
+      zhitomrak-zhitomrak-write-words-left = zhitomrak.single-write-left;
       zhitomrak-zhitomrak-list-single = zhitomrak.single-list;
       zhitomrak-zhitomrak-list-left = zhitomrak.single-list-left;
     }

@@ -20,8 +20,8 @@ use Rattle.zhitomrak.proofs.zhitomrak_tendency.Reads as tendency
 use Rattle.zhitomrak.proofs.zhitomrak_wind.Reads as wind
 use Rattle.zhitomrak.proofs.zhitomrak_humidity.Reads as humidity
 use Rattle.zhitomrak.proofs.zhitomrak_read.Reads as read
-use Rattle.zhitomrak.proofs.zhitomrak_record.Reads as record-at
-use Rattle.zhitomrak.proofs.zhitomrak_write.Reads as write
+use Rattle.zhitomrak.proofs.zhitomrak_record_at.Reads as record-at
+use Rattle.zhitomrak.proofs.zhitomrak_write_words.Reads as write
 use Rattle.zhitomrak.proofs.zhitomrak_list.Reads as list
 
 -- ---- open and hear

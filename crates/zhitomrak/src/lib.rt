@@ -93,7 +93,7 @@ pub extern "C" fn zhitomrak_read(file: &[u8]) -> FileTold
 
 // The record of a good file with this index, counted from 0; of any bytes what stands there. Where there is none it is all zeros.
 #[no_mangle]
-pub extern "C" fn zhitomrak_record(file: &[u8], index: usize) -> Figures
+pub extern "C" fn zhitomrak_record_at(file: &[u8], index: usize) -> Figures
     ensures { λ r. ⌜ r ≡ recordAt (now (file .entry)) index ⌝ }
 {
     reader::record_at(file, index)
@@ -103,7 +103,7 @@ pub extern "C" fn zhitomrak_record(file: &[u8], index: usize) -> Figures
 // the 49th), or 17 with the bytes needed, and every byte stays. A kind that is none, and a field that does not fit its bytes, break the
 // rules.
 #[no_mangle]
-pub extern "C" fn zhitomrak_write(buffer: &mut [u8], records: &[u32]) -> WriteTold
+pub extern "C" fn zhitomrak_write_words(buffer: &mut [u8], records: &[u32]) -> WriteTold
     ensures { λ r. ⌜ ((rule : ℕ → ℤ) → DewRule rule → WroteAs rule (now (records .entry)) (now (buffer .entry)) (now (buffer .exit)) r) ⌝ }
 {
     filed::write_told(writer::write(buffer, records))

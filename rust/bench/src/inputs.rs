@@ -66,23 +66,40 @@ pub fn open_independent(barometer: &Barometer) -> station::Store {
     station::Store::open(&settings).expect("the settings are good")
 }
 
-/// A psychrometer: what is on its wet bulb, the dry bulbs that it has, and by how much the wet one stands below them at most.
+/// A certificate that has none of the readings.
+pub const NARROW: Barometer = Barometer {
+    mm_hg: false,
+    points: [(10850, -12), (10900, 3), (10950, 8), (10980, -4), (11000, 25)],
+    readings: (9000, 10800),
+};
+
+/// A psychrometer: what is on its wet bulb, the dry bulbs that it has, and by how much the wet one stands below them at most, less what
+/// it stands higher.
 pub struct Bulbs {
     state: u8,
     dry: (i32, i32),
     below: u32,
+    higher: f32,
 }
 
 pub const WATER: Bulbs = Bulbs {
     state: 0,
     dry: (-100, 350),
     below: 39,
+    higher: 0.0,
 };
 
 pub const ICE: Bulbs = Bulbs {
     state: 1,
     dry: (-100, 0),
     below: 9,
+    higher: 0.0,
+};
+
+/// A wet bulb above the dry one.
+pub const CROSSED: Bulbs = Bulbs {
+    higher: 5.0,
+    ..WATER
 };
 
 /// The air in which a state may be unknown.
@@ -90,6 +107,7 @@ pub const UNKNOWN: Bulbs = Bulbs {
     state: 2,
     dry: (-99, 0),
     below: 9,
+    higher: 0.0,
 };
 
 pub type Message = [u8; 16];
@@ -120,7 +138,7 @@ pub fn watch(barometer: &Barometer, bulbs: &Bulbs, minutes: u32, step: u32) -> V
         };
         let dry = tenths(4, bulbs.dry.0, bulbs.dry.1);
         let below = scattered(t + 3, bulbs.below + 1) as f32 / 10.0;
-        let mut wet = message(5, t * step, dry - below, 0.0);
+        let mut wet = message(5, t * step, dry - below + bulbs.higher, 0.0);
         wet[1] = bulbs.state;
         sent.push(message(0, t * step, tenths(0, low, high), 0.0));
         sent.push(message(1, t * step, tenths(1, -100, 400), 0.0));

@@ -8,7 +8,7 @@ mod inputs;
 use std::hint::black_box;
 use std::time::Instant;
 
-use inputs::{Barometer, Bulbs, Message, HPA, ICE, MM_HG, UNKNOWN, WATER};
+use inputs::{Barometer, Bulbs, Message, CROSSED, HPA, ICE, MM_HG, NARROW, UNKNOWN, WATER};
 use reference::{listing, station, watchfile as independent};
 use zhitomrak::watchfile as proved;
 use zhitomrak::{raw, Store};
@@ -198,8 +198,8 @@ fn compare_questions(a: &Store, b: &station::Store, asked: &[u32]) {
     );
 }
 
-/// A watch heard on both sides, and their answers compared.
-fn kept(barometer: &Barometer, bulbs: &Bulbs, asked: &[u32]) -> (Store, station::Store) {
+/// A watch heard on both sides.
+fn heard(barometer: &Barometer, bulbs: &Bulbs) -> (Store, station::Store) {
     let (mut a, mut b) = (
         inputs::open_proved(barometer),
         inputs::open_independent(barometer),
@@ -210,8 +210,30 @@ fn kept(barometer: &Barometer, bulbs: &Bulbs, asked: &[u32]) -> (Store, station:
         hear_proved(&mut a, &sent),
         hear_independent(&mut b, &sent),
     );
+    (a, b)
+}
+
+/// The same, and their answers compared.
+fn kept(barometer: &Barometer, bulbs: &Bulbs, asked: &[u32]) -> (Store, station::Store) {
+    let (a, b) = heard(barometer, bulbs);
     compare_questions(&a, &b, asked);
     (a, b)
+}
+
+/// Humidity refused by this number each time: what comes before that test, which tells the parts of an answer apart.
+fn humidity_refused(number: u32, barometer: &Barometer, bulbs: &Bulbs, asked: &[u32], back: u32) {
+    let (a, b) = heard(barometer, bulbs);
+    for &m in asked {
+        let told = (a.humidity(m - back), b.humidity(m - back));
+        same("humidity", told.0.err().map(|r| r.number()), Some(number));
+        same("humidity", told.1.err().map(|r| u32::from(r.number())), Some(number));
+    }
+    row(
+        &format!("humidity, refused {number}"),
+        asked.len(),
+        || ask(asked, |m| a.humidity(m - back).map_or(0, |h| h.e)),
+        || ask(asked, |m| b.humidity(m - back).map_or(0, |h| h.e)),
+    );
 }
 
 fn questions() {
@@ -257,6 +279,9 @@ fn questions() {
             },
         );
     }
+    humidity_refused(11, &HPA, &WATER, &asked, 300);
+    humidity_refused(12, &NARROW, &WATER, &asked, 0);
+    humidity_refused(13, &HPA, &CROSSED, &asked, 0);
     row(
         "pressure, refused 11",
         n,

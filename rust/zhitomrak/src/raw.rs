@@ -110,9 +110,13 @@ extern "C" {
     fn zhitomrak_wind(store: *const [u64; WORDS], minute: u32) -> Wind;
     fn zhitomrak_humidity(store: *const [u64; WORDS], minute: u32) -> Humidity;
     fn zhitomrak_read(file: *const u8, length: usize) -> File;
-    fn zhitomrak_record(file: *const u8, length: usize, index: usize) -> Record;
-    fn zhitomrak_write(buffer: *mut u8, length: usize, records: *const u32, words: usize)
-        -> Written;
+    fn zhitomrak_record_at(file: *const u8, length: usize, index: usize) -> Record;
+    fn zhitomrak_write_words(
+        buffer: *mut u8,
+        length: usize,
+        records: *const u32,
+        words: usize,
+    ) -> Written;
     fn zhitomrak_list(file: *const u8, length: usize, text: *mut u8, room: usize) -> Listed;
 }
 
@@ -156,7 +160,7 @@ pub fn read(file: &[u8]) -> File {
 
 #[inline]
 pub fn record(file: &[u8], index: usize) -> Record {
-    unsafe { zhitomrak_record(file.as_ptr(), file.len(), index) }
+    unsafe { zhitomrak_record_at(file.as_ptr(), file.len(), index) }
 }
 
 // A record is seven words of 32 bits, so as many words stand behind the pointer as are told.
@@ -165,7 +169,7 @@ const _: () = assert!(std::mem::size_of::<Record>() == 4 * RECORD_WORDS);
 #[inline]
 pub fn write(buffer: &mut [u8], records: &[Record]) -> Written {
     unsafe {
-        zhitomrak_write(
+        zhitomrak_write_words(
             buffer.as_mut_ptr(),
             buffer.len(),
             records.as_ptr().cast(),

@@ -97,14 +97,14 @@ impl<'file> Records<'file> {
     /// The record with this index, counted from 0.
     #[inline]
     pub fn get(&self, index: usize) -> Option<Record> {
-        let record = raw::record(self.file, index);
-        (record.kind != 0).then_some(record)
+        (index < self.count).then(|| raw::record(self.file, index))
     }
 
     /// All of them in their order.
     #[inline]
     pub fn iter(self) -> impl Iterator<Item = Record> + 'file {
-        (0..self.count).filter_map(move |index| self.get(index))
+        let file = self.file;
+        (0..self.count).map(move |index| raw::record(file, index))
     }
 }
 

@@ -1,9 +1,9 @@
--- `zhitomrak_write` meets its contract: what writing came to, told. Assumes nothing.
+-- `zhitomrak_write_words` meets its contract: what writing came to, told. Assumes nothing.
 use mathlib.Core.Path.{ap, _∙_}
 use Rattle.filed.specs.Files.{writeIn}
 use borrow.Author.Needs.{needs}
-use Rattle.zhitomrak.proofs.zhitomrak_write.Statement.{statement}
-use Rattle.zhitomrak.proofs.zhitomrak_write.Tie as tie
+use Rattle.zhitomrak.proofs.zhitomrak_write_words.Statement.{statement}
+use Rattle.zhitomrak.proofs.zhitomrak_write_words.Tie as tie
 
 write-requires : tie.Need-write-requires
 write-requires c κs = search needs
@@ -20,5 +20,5 @@ returns c =
     let it = c .before .before .before .write .ensures rule ruled in
     record { answer = c .write-told .ensures ∙ ap writeIn (it .answer); bytes = it .bytes }
 
-pub zhitomrak-write-spec : {M : Type 1} → statement M
-zhitomrak-write-spec = tie.close (tie.spec write-requires write-told-requires same-length returns)
+pub zhitomrak-write-words-spec : {M : Type 1} → statement M
+zhitomrak-write-words-spec = tie.close (tie.spec write-requires write-told-requires same-length returns)
