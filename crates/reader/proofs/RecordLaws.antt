@@ -72,11 +72,11 @@ module _ (s : List ℕ) (i : ℕ) where
 
   -- ---- and what is read there
 
-  all-true : (a b c d : Bool) → (a && b && c && d) ≡ true → d ≡ true
-  all-true true true true d h = h
-  all-true true true false d h = cc
-  all-true true false c d h = cc
-  all-true false b c d h = cc
+  all-true : (a b c d : Bool) → (a && b && c && d) ≡ true → (c ≡ true) × (d ≡ true)
+  all-true true true true d h = (refl, h)
+  all-true true true false d h = impossible cc
+  all-true true false c d h = impossible cc
+  all-true false b c d h = impossible cc
 
   nowhere-by : (b : Bool) (row : Row) (at : ℕ) (r : Figures) → cond b (At row at) Nowhere ≡ Nowhere → nothing ≡ cond b r nothing
   nowhere-by true row at r h = cc
@@ -91,11 +91,13 @@ module _ (s : List ℕ) (i : ℕ) where
 
   pub at-is : (p : Place) (row : Row) (at : ℕ) → p ≡ placeOf s i → p ≡ At row at
       → (at ≡ offsetAt s i) × (row ≡ rowOf (rowAt s i)) × (at + sizeOf (row .kind) ≤ length s) × (recordAt s i ≡ figuresOf (recordIn s i))
+      × (kindRight (row .kind) ≡ true)
   at-is p row at e is =
       let f = at-by (isThere s i) (rowOf (rowAt s i)) row (offsetAt s i) at (sym e ∙ is) in
-      let w = leb-true (offsetAt s i + sizeOf (kindAt s i)) (length s) (all-true (ltb i (countOf s)) (leb (startOf i + 8) (length s)) (kindRight (kindAt s i)) _ (f .0)) in
+      let t = all-true (ltb i (countOf s)) (leb (startOf i + 8) (length s)) (kindRight (kindAt s i)) (leb (offsetAt s i + sizeOf (kindAt s i)) (length s)) (f .0) in
+      let w = leb-true (offsetAt s i + sizeOf (kindAt s i)) (length s) (t .1) in
       let k : row .kind ≡ kindAt s i = ap (λ (r : Row). r .kind) (sym (f .1)) in
-      (sym (f .2), sym (f .1), omega (arith, w, f .2, ap sizeOf k), rw (f .0))
+      (sym (f .2), sym (f .1), omega (arith, w, f .2, ap sizeOf k), rw (f .0), ap kindRight k ∙ t .0)
 
 -- ---- the records of a good file
 

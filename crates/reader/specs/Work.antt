@@ -3,10 +3,11 @@ use mathlib.Core.Path.{_≡_}
 use mathlib.Core.Bool.{cond}
 use mathlib.Core.List.{List}
 use Prim.Native.Nat.{ℕ}
-use lib.IntN.{ℤ}
+use lib.Dec.{eqb, ltb}
+use lib.IntN.{ℤ, pos}
 use lib.ListN.{getD, length, drop}
 use Rattle.number.specs.Refusal.{Answer, refused, given, answer}
-use Rattle.octets.specs.Bytes.{le32}
+use Rattle.octets.specs.Bytes.{le16, le32, signed16}
 use Rattle.watchfile.specs.Fields.{Field, fieldTests}
 use Rattle.watchfile.specs.Format.{humidityFields, rowFields, rowsFields, bodiesFields, recordsFrom, startOf}
 use Rattle.watchfile.specs.declared.Record.{Record}
@@ -68,3 +69,19 @@ bodiesOf rule s count = found s (bodiesFields rule s count 4 (startOf count)) (r
 
 abbrev pub placeOf : List ℕ → ℕ → Place
 placeOf s i = cond (isThere s i) (places.At (rowOf (rowAt s i)) (offsetAt s i)) places.Nowhere
+
+-- The fields of a body by its kind, 0 where it has fewer.
+abbrev pub firstOf : ℕ → List ℕ → ℤ
+firstOf kind s = cond (eqb kind 2) (signed16 (le16 s 0)) (pos (le16 s 0))
+
+abbrev pub secondOf : ℕ → List ℕ → ℤ
+secondOf kind s = cond (eqb kind 2) (pos (getD s 2 0)) (cond (ltb 2 kind) (pos (le16 s 2)) (pos 0))
+
+abbrev pub thirdOf : ℕ → List ℕ → ℤ
+thirdOf kind s = cond (eqb kind 4) (pos (le16 s 4)) (pos 0)
+
+abbrev pub fourthOf : ℕ → List ℕ → ℤ
+fourthOf kind s = cond (eqb kind 4) (pos (getD s 6 0)) (pos 0)
+
+abbrev pub fifthOf : ℕ → List ℕ → ℤ
+fifthOf kind s = cond (eqb kind 4) (signed16 (le16 s 7)) (pos 0)

@@ -1,16 +1,16 @@
 // The reader of a watch file: contents first, then each body from its own offset.
 ghost use mathlib.Core.Path.{_≡_};
-ghost use mathlib.Core.Bool.{_&&_};
+ghost use mathlib.Core.Bool.{true, _&&_};
 ghost use Prim.Native.Nat.{ℕ, _+_, _≤_};
 ghost use lib.Dec.{eqb};
 ghost use lib.IntN.{ℤ, pos};
 ghost use lib.ListN.{length};
 ghost use Rattle.number.specs.Refusal.{given};
 ghost use Rattle.octets.specs.Bytes.{le16, le32};
-ghost use Rattle.watchfile.specs.Rules.{sizeOf};
+ghost use Rattle.watchfile.specs.Rules.{kindRight, sizeOf};
 ghost use Rattle.watchfile.specs.Format.{DewRule, kept, pressureFields, tendencyFields, windFields, humidityFields, bodyFields, bodyOf, bodyFigures, startOf, reading};
 ghost use Rattle.reader.specs.Read.{verdictAs, counted, recordAt};
-ghost use Rattle.reader.specs.Work.{derivedFields, BodyHas, RowFound, contentsAs, contentsOf, bodiesOf, placeOf};
+ghost use Rattle.reader.specs.Work.{derivedFields, BodyHas, RowFound, contentsAs, contentsOf, bodiesOf, placeOf, firstOf, secondOf, thirdOf, fourthOf, fifthOf};
 use number::Kept;
 use watchfile::Figures;
 use watchfile::NOTHING;
@@ -67,7 +67,9 @@ const OFFSET: usize = 2;
 
 const MINUTE: usize = 4;
 
-// The places of a body's fields, from its first byte: of a pressure, a tendency, a wind and a humidity.
+// The places of a body's fields, from its first byte: of any, of a pressure, a tendency, a wind and a humidity.
+const FIRST: usize = 0;
+
 const PRESSURE: usize = 0;
 
 const CHANGE: usize = 0;
@@ -393,84 +395,75 @@ fn small_figure(n: u8) -> Kept
     Kept { v: wide }
 }
 
-fn pressure_at(s: &[u8], minute: u32) -> Figures
+// The fields of a body by its kind, 0 where it has fewer. Of the first a change of pressure alone has a sign.
+fn first_at(s: &[u8], kind: u8) -> Kept
     requires { ⌜ 2 ≤ length (now s) ⌝ }
-    ensures { λ r. ⌜ r ≡ bodyFigures minute (bodyOf 1 (now (s .entry))) ⌝ }
+    ensures { λ r. ⌜ r ≡ kept (firstOf kind (now (s .entry))) ⌝ }
 {
-    let none = Kept { v: 0 };
-    Figures {
-        kind: 1,
-        minute,
-        first: figure(get16(s, PRESSURE)),
-        second: none,
-        third: none,
-        fourth: none,
-        fifth: none,
+    let field = get16(s, FIRST);
+    if kind == 2 {
+        return octets::signed(field);
     }
+    figure(field)
 }
 
-fn tendency_at(s: &[u8], minute: u32) -> Figures
-    requires { ⌜ 3 ≤ length (now s) ⌝ }
-    ensures { λ r. ⌜ r ≡ bodyFigures minute (bodyOf 2 (now (s .entry))) ⌝ }
-{
-    let none = Kept { v: 0 };
-    Figures {
-        kind: 2,
-        minute,
-        first: octets::signed(get16(s, CHANGE)),
-        second: small_figure(s[ABSENT]),
-        third: none,
-        fourth: none,
-        fifth: none,
-    }
-}
-
-fn wind_at(s: &[u8], minute: u32) -> Figures
-    requires { ⌜ 4 ≤ length (now s) ⌝ }
-    ensures { λ r. ⌜ r ≡ bodyFigures minute (bodyOf 3 (now (s .entry))) ⌝ }
-{
-    let none = Kept { v: 0 };
-    Figures {
-        kind: 3,
-        minute,
-        first: figure(get16(s, SPEED)),
-        second: figure(get16(s, DIRECTION)),
-        third: none,
-        fourth: none,
-        fifth: none,
-    }
-}
-
-fn humidity_at(s: &[u8], minute: u32) -> Figures
-    requires { ⌜ 9 ≤ length (now s) ⌝ }
-    ensures { λ r. ⌜ r ≡ bodyFigures minute (bodyOf 4 (now (s .entry))) ⌝ }
-{
-    Figures {
-        kind: 4,
-        minute,
-        first: figure(get16(s, E)),
-        second: figure(get16(s, SATURATION)),
-        third: figure(get16(s, DEFICIT)),
-        fourth: small_figure(s[RELATIVE]),
-        fifth: octets::signed(get16(s, DEW)),
-    }
-}
-
-// The same of a body of a kind.
-fn figures_at(s: &[u8], kind: u8, minute: u32) -> Figures
+fn second_at(s: &[u8], kind: u8) -> Kept
     requires { ⌜ sizeOf kind ≤ length (now s) ⌝ }
+    ensures { λ r. ⌜ r ≡ kept (secondOf kind (now (s .entry))) ⌝ }
+{
+    if kind == 2 {
+        return small_figure(s[ABSENT]);
+    }
+    if kind > 2 {
+        return figure(get16(s, DIRECTION));
+    }
+    Kept { v: 0 }
+}
+
+fn third_at(s: &[u8], kind: u8) -> Kept
+    requires { ⌜ sizeOf kind ≤ length (now s) ⌝ }
+    ensures { λ r. ⌜ r ≡ kept (thirdOf kind (now (s .entry))) ⌝ }
+{
+    if kind == 4 {
+        return figure(get16(s, DEFICIT));
+    }
+    Kept { v: 0 }
+}
+
+fn fourth_at(s: &[u8], kind: u8) -> Kept
+    requires { ⌜ sizeOf kind ≤ length (now s) ⌝ }
+    ensures { λ r. ⌜ r ≡ kept (fourthOf kind (now (s .entry))) ⌝ }
+{
+    if kind == 4 {
+        return small_figure(s[RELATIVE]);
+    }
+    Kept { v: 0 }
+}
+
+fn fifth_at(s: &[u8], kind: u8) -> Kept
+    requires { ⌜ sizeOf kind ≤ length (now s) ⌝ }
+    ensures { λ r. ⌜ r ≡ kept (fifthOf kind (now (s .entry))) ⌝ }
+{
+    if kind == 4 {
+        return octets::signed(get16(s, DEW));
+    }
+    Kept { v: 0 }
+}
+
+// A body of a kind by its figures.
+fn figures_at(s: &[u8], kind: u8, minute: u32) -> Figures
+    requires { ⌜ (kindRight kind ≡ true) × (sizeOf kind ≤ length (now s)) ⌝ }
     ensures { λ r. ⌜ r ≡ bodyFigures minute (bodyOf kind (now (s .entry))) ⌝ }
 {
-    if kind == 1 {
-        return pressure_at(s, minute);
+    Figures {
+        kind: kind as u32,
+        minute,
+        first: first_at(s, kind),
+        second: second_at(s, kind),
+        third: third_at(s, kind),
+        fourth: fourth_at(s, kind),
+        fifth: fifth_at(s, kind),
     }
-    if kind == 2 {
-        return tendency_at(s, minute);
-    }
-    if kind == 3 {
-        return wind_at(s, minute);
-    }
-    humidity_at(s, minute)
 }
 
 // The record with an index, counted from 0: of a good file its i-th, of any bytes what stands there. All is 0 where nothing does.

@@ -1,11 +1,12 @@
 -- `record_at` meets its contract: the body of its kind, where one was found. Assumes nothing.
 use mathlib.Core.Path.{_≡_, sym, ap, _∙_}
+use mathlib.Core.Bool.{true}
 use mathlib.Core.List.{List}
 use Prim.Native.Nat.{ℕ, _+_, _≤_}
 use native.Mathlib.Omega.{arith}
 use lib.ListN.{length, drop}
 use borrow.Author.Needs.{needs}
-use Rattle.watchfile.specs.Rules.{sizeOf}
+use Rattle.watchfile.specs.Rules.{kindRight, sizeOf}
 use Rattle.watchfile.specs.Format.{bodyOf, bodyFigures, figuresOf}
 use Rattle.reader.specs.Read.{rowAt, offsetAt, recordIn, recordAt}
 use Rattle.reader.specs.Work.{rowOf}
@@ -30,7 +31,7 @@ found : (c : tie.After-known-told) →
     let row = c .before .row .given .0 .0 in
     let at = c .before .row .given .0 .1 .0 in
     (at ≡ offsetAt (q .file .now) (q .i)) × (row ≡ rowOf (rowAt (q .file .now) (q .i))) × (at + sizeOf (row .kind) ≤ length (q .file .now))
-    × (recordAt (q .file .now) (q .i) ≡ figuresOf (recordIn (q .file .now) (q .i)))
+    × (recordAt (q .file .now) (q .i) ≡ figuresOf (recordIn (q .file .now) (q .i))) × (kindRight (row .kind) ≡ true)
 found c =
     let q = c .before .before .before .before .before .args in
     let f = c .before .before .before .find in
@@ -48,7 +49,7 @@ part-figures-at-end c = search needs
 figures-at-requires : tie.Need-figures-at-requires
 figures-at-requires c κs =
     let t = found (c .before) in
-    omega (arith, t .2, length-part (c .before .before .before .before .before .before .args .file .now) (c .before .before .row .given .0 .1 .0))
+    (t .4, omega (arith, t .2, length-part (c .before .before .before .before .before .before .args .file .now) (c .before .before .row .given .0 .1 .0)))
 
 returns : tie.Need-returns
 returns c = nowhere-is (c .before .before .before .before .args .file .now) (c .before .before .before .before .args .i) (c .before .before .find .result) (c .before .before .find .ensures) (c .enum-told .given .1)
