@@ -5,17 +5,21 @@ use Prim.Native.Nat.{ℕ, _≤_}
 use lib.IntN.{ℤ, pos, natAbs}
 use Rattle.number.specs.Refusal.{answer}
 use Rattle.quantity.specs.Limits.{inside, bulb, frost, recordedPressure}
+use Rattle.quantity.specs.declared.BulbState.{BulbState}
 use Rattle.settings.specs.Settings.{psychrometer}
 use Rattle.vapour.specs.Vapour.{Near, water, ice}
-use Rattle.humidity.specs.Humidity.{withinLimits, byVapour, moistureAs, Follow}
+use Rattle.humidity.specs.Humidity.{withinLimits, byVapour, moistureAs, Follow, IsMoisture}
 use Rattle.humidity.specs.declared.HumidityFigures.{HumidityFigures}
 use Rattle.humidity.specs.declared.Moisture.{Moisture}
+use Rattle.humidity.specs.declared.Moisture.the-variants as moisture
 use Rattle.humidity.specs.declared.Moisture.the-variants.{Given}
+use Rattle.humidity.specs.declared.Vapour.{Vapour}
+use Rattle.humidity.specs.declared.Vapour.the-variants as vapour
+use Rattle.humidity.specs.declared.Vapour.the-variants.{Worked}
 
--- refusal 7 does not hold, and the bulbs have these entries over water
-pub record Tabled (dry wet p a : ℤ) (d w : ℕ) : Type 0 where
+-- refusal 7 does not hold, and the wet bulb has this entry over water
+pub record Tabled (dry wet p a : ℤ) (w : ℕ) : Type 0 where
   pub limits : withinLimits dry wet p a ≡ true
-  pub near-dry : Near water dry d
   pub near-wet : Near water wet w
 
 -- the wet bulb has this entry over ice
@@ -60,3 +64,13 @@ pub record IsByVapour (e : ℤ) (saturation : ℕ) (m : Moisture) : Type 0 where
   pub figures : HumidityFigures
   pub first : moistureAs m ≡ answer (byVapour saturation e) figures
   pub worked : m ≡ Given figures → FiguresOf e saturation figures
+
+-- what the wet bulb comes to decides all, with the dry bulb's entry d: its refusal is the answer, or e and d give it
+abbrev pub Decided : BulbState → ℤ → ℤ → ℤ → ℤ → ℕ → Vapour → Type 0
+Decided s dry wet p a d (Worked e) = (m : Moisture) → IsByVapour (e .v) d m → IsMoisture s dry wet p a m
+Decided s dry wet p a d vapour.WetAboveDry = IsMoisture s dry wet p a moisture.WetAboveDry
+Decided s dry wet p a d vapour.TooWarmForIce = IsMoisture s dry wet p a moisture.TooWarmForIce
+Decided s dry wet p a d vapour.UnknownOutsideRange = IsMoisture s dry wet p a moisture.UnknownOutsideRange
+
+abbrev pub Decides : BulbState → ℤ → ℤ → ℤ → ℤ → Vapour → Type 0
+Decides s dry wet p a v = (d : ℕ) → Near water dry d → Decided s dry wet p a d v

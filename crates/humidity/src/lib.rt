@@ -9,8 +9,8 @@ ghost use Rattle.quantity.specs.Limits.{inside, bulb, recordedPressure};
 ghost use Rattle.quantity.specs.declared.BulbState.the-variants.{Water, Ice, Unknown};
 ghost use Rattle.settings.specs.Settings.{psychrometer};
 ghost use Rattle.vapour.specs.Vapour.{DewPoint, lowestVapour, highestVapour, recordedVapour};
-ghost use Rattle.humidity.specs.Humidity.{waterFactor, exact, IsMoisture};
-ghost use Rattle.humidity.specs.Parts.{Tabled, Frozen, Sized, largestFactor, largestExact, FiguresOf, IsByVapour};
+ghost use Rattle.humidity.specs.Humidity.{waterFactor, exact, withinLimits, IsMoisture};
+ghost use Rattle.humidity.specs.Parts.{Tabled, Frozen, Sized, largestFactor, largestExact, FiguresOf, IsByVapour, Decides};
 use number::Kept;
 use number::Number;
 use quantity::BulbState;
@@ -47,6 +47,17 @@ pub enum Moisture {
     TooDry,
     // 7: a figure outside its limits
     OutsideLimits,
+}
+
+// What the wet bulb comes to: e, rounded, or why there is none.
+enum Vapour {
+    Worked(Number),
+    // 13
+    WetAboveDry,
+    // 20
+    TooWarmForIce,
+    // 21
+    UnknownOutsideRange,
 }
 
 // Whether the station pressure and A lie within their limits.
@@ -138,48 +149,67 @@ fn by_vapour(e: Number, saturation: u32) -> Moisture
     Moisture::Given(figures(VapourPressure(e.size() as u32), VapourPressure(saturation)))
 }
 
-// ---- by the state, where refusal 7 does not hold: d and w are the bulbs' entries over water, i the wet bulb's over ice
+// ---- e by the state, where refusal 7 does not hold: w is the wet bulb's entry over water, i that over ice
 
-fn on_water(dry: Number, wet: Number, pressure: Number, a: Number, d: u32, w: u32) -> Moisture
-    requires { ⌜ Tabled (dry .v) (wet .v) (pressure .v) (a .v) d w ⌝ }
-    ensures { λ r. ⌜ IsMoisture Water (dry .v) (wet .v) (pressure .v) (a .v) r ⌝ }
+fn on_water(dry: Number, wet: Number, pressure: Number, a: Number, w: u32) -> Vapour
+    requires { ⌜ Tabled (dry .v) (wet .v) (pressure .v) (a .v) w ⌝ }
+    ensures { λ r. ⌜ Decides Water (dry .v) (wet .v) (pressure .v) (a .v) r ⌝ }
 {
     if !wet.at_most(dry) {
-        return Moisture::WetAboveDry;
+        return Vapour::WetAboveDry;
     }
     let over_water = exact(w, water_factor(wet), a, pressure, dry, wet);
-    by_vapour(over_water.over(PARTS), d)
+    Vapour::Worked(over_water.over(PARTS))
 }
 
-fn on_ice(dry: Number, wet: Number, pressure: Number, a: Number, d: u32, w: u32, i: u32) -> Moisture
-    requires { ⌜ Tabled (dry .v) (wet .v) (pressure .v) (a .v) d w × Frozen (wet .v) i ⌝ }
-    ensures { λ r. ⌜ IsMoisture Ice (dry .v) (wet .v) (pressure .v) (a .v) r ⌝ }
+fn on_ice(dry: Number, wet: Number, pressure: Number, a: Number, i: u32) -> Vapour
+    requires { ⌜ (withinLimits (dry .v) (wet .v) (pressure .v) (a .v) ≡ true) × Frozen (wet .v) i ⌝ }
+    ensures { λ r. ⌜ Decides Ice (dry .v) (wet .v) (pressure .v) (a .v) r ⌝ }
 {
     let over_ice = exact(i, ICE_FACTOR, a, pressure, dry, wet);
-    by_vapour(over_ice.over(PARTS), d)
+    Vapour::Worked(over_ice.over(PARTS))
 }
 
-fn in_doubt(
-    dry: Number,
-    wet: Number,
-    pressure: Number,
-    a: Number,
-    d: u32,
-    w: u32,
-    i: u32,
-) -> Moisture
-    requires { ⌜ Tabled (dry .v) (wet .v) (pressure .v) (a .v) d w × Frozen (wet .v) i ⌝ }
-    ensures { λ r. ⌜ IsMoisture Unknown (dry .v) (wet .v) (pressure .v) (a .v) r ⌝ }
+fn in_doubt(dry: Number, wet: Number, pressure: Number, a: Number, w: u32, i: u32) -> Vapour
+    requires { ⌜ Tabled (dry .v) (wet .v) (pressure .v) (a .v) w × Frozen (wet .v) i ⌝ }
+    ensures { λ r. ⌜ Decides Unknown (dry .v) (wet .v) (pressure .v) (a .v) r ⌝ }
 {
     if !BulbTemperature::leaves_doubt(dry) {
-        return Moisture::UnknownOutsideRange;
+        return Vapour::UnknownOutsideRange;
     }
     let over_ice = exact(i, ICE_FACTOR, a, pressure, dry, wet);
     if dry.at_most(wet) {
-        return by_vapour(over_ice.over(PARTS), d);
+        return Vapour::Worked(over_ice.over(PARTS));
     }
     let over_water = exact(w, water_factor(wet), a, pressure, dry, wet);
-    by_vapour(over_water.plus(over_ice).over(2 * PARTS), d)
+    Vapour::Worked(over_water.plus(over_ice).over(2 * PARTS))
+}
+
+fn by_state(
+    state: BulbState,
+    dry: BulbTemperature,
+    wet: BulbTemperature,
+    pressure: Hectopascals,
+    a: PsychrometerCoefficient,
+    w: u32,
+) -> Vapour
+    requires { ⌜ Tabled (dry .0 .v) (wet .0 .v) (pressure .0 .v) (a .0 .v) w ⌝ }
+    ensures { λ r. ⌜ Decides state (dry .0 .v) (wet .0 .v) (pressure .0 .v) (a .0 .v) r ⌝ }
+{
+    let t = dry.0.number();
+    let u = wet.0.number();
+    let k = a.0.number();
+    match state {
+        BulbState::Water => on_water(t, u, pressure.0, k, w),
+        BulbState::Ice => match vapour::saturation_over_ice(wet) {
+            OverIce::Entry(i) => on_ice(t, u, pressure.0, k, i.0),
+            OverIce::OutsideIceTable => Vapour::TooWarmForIce,
+        },
+        BulbState::Unknown => match vapour::saturation_over_ice(wet) {
+            OverIce::Entry(i) => in_doubt(t, u, pressure.0, k, w, i.0),
+            OverIce::OutsideIceTable => Vapour::TooWarmForIce,
+        },
+    }
 }
 
 // The humidity of both bulbs at a station pressure, by what is on the wet bulb's wick, or the first of refusals 7, 13, 20, 21, 22 and 15
@@ -193,24 +223,16 @@ pub fn humidity(
 ) -> Moisture
     ensures { λ r. ⌜ IsMoisture state (dry .0 .v) (wet .0 .v) (pressure .0 .v) (a .0 .v) r ⌝ }
 {
-    let t = dry.0.number();
-    let u = wet.0.number();
-    let k = a.0.number();
     let Saturations::Entries(d, w) = vapour::saturation(dry, wet) else {
         return Moisture::OutsideLimits;
     };
-    if !others_hold(pressure.0, k) {
+    if !others_hold(pressure.0, a.0.number()) {
         return Moisture::OutsideLimits;
     }
-    match state {
-        BulbState::Water => on_water(t, u, pressure.0, k, d.0, w.0),
-        BulbState::Ice => match vapour::saturation_over_ice(wet) {
-            OverIce::Entry(i) => on_ice(t, u, pressure.0, k, d.0, w.0, i.0),
-            OverIce::OutsideIceTable => Moisture::TooWarmForIce,
-        },
-        BulbState::Unknown => match vapour::saturation_over_ice(wet) {
-            OverIce::Entry(i) => in_doubt(t, u, pressure.0, k, d.0, w.0, i.0),
-            OverIce::OutsideIceTable => Moisture::TooWarmForIce,
-        },
+    match by_state(state, dry, wet, pressure, a, w.0) {
+        Vapour::Worked(e) => by_vapour(e, d.0),
+        Vapour::WetAboveDry => Moisture::WetAboveDry,
+        Vapour::TooWarmForIce => Moisture::TooWarmForIce,
+        Vapour::UnknownOutsideRange => Moisture::UnknownOutsideRange,
     }
 }

@@ -13,7 +13,6 @@ use Rattle.humidity.proofs.MoistureLaws.{above, by-vapour}
 use borrow.Author.Needs.{needs}
 use Rattle.humidity.proofs.on_water.Statement.{statement}
 use Rattle.humidity.proofs.on_water.Tie as tie
-use Rattle.humidity.proofs.by_vapour.Reads as by-vapour-reads
 use Rattle.humidity.proofs.exact.Reads as exact-reads
 use Rattle.humidity.proofs.water_factor.Reads as water-factor-reads
 use Rattle.number.proofs.Number.at_most.Reads as at-most-reads
@@ -30,10 +29,10 @@ at-most-requires : tie.Need-at-most-requires
 at-most-requires c κs = search needs
 
 returns : tie.Need-returns
-returns c =
+returns c d near =
     let start = c .before .before in
     let x = start .args in
-    above Water (x .dry .v) (x .wet .v) (x .pressure .v) (x .a .v) (x .d) (start .pre .limits) (start .pre .near-dry) (x .w) 0 (start .pre .near-wet)
+    above Water (x .dry .v) (x .wet .v) (x .pressure .v) (x .a .v) d (start .pre .limits) near (x .w) 0 (start .pre .near-wet)
     (ap not (sym (c .before .at-most .ensures)) ∙ c .if1 .taken)
 
 water-factor-requires : tie.Need-water-factor-requires
@@ -48,35 +47,20 @@ exact-requires c κs =
 over-requires : tie.Need-over-requires
 over-requires c κs = (omega arith, omega (arith, c .exact .ensures .size))
 
-by-vapour-requires : tie.Need-by-vapour-requires
-by-vapour-requires c κs =
-    let start = c .before .before .before .before .before in
-    let x = start .args in
-    entry-range (x .dry .v) (x .d) (in-limits start .in-dry) (start .pre .near-dry) .1
-
 returns-2 : tie.Need-returns-2
 unfolding vapourPressure
-returns-2 c =
-    let worked = c .before .before in
+returns-2 c d near m is =
+    let worked = c .before in
     let tested = worked .before .before in
     let start = tested .before .before in
     let x = start .args in
-    by-vapour Water (x .dry .v) (x .wet .v) (x .pressure .v) (x .a .v) (x .d) (start .pre .limits) (start .pre .near-dry) (x .w) 0 (start .pre .near-wet)
-    (ap not (sym (tested .before .at-most .ensures)) ∙ tested .if1 .left) refl refl (c .by-vapour .result)
-    (subst (λ (e : ℤ). IsByVapour e (x .d) (c .by-vapour .result))
-    (c .before .over .ensures .value
+    by-vapour Water (x .dry .v) (x .wet .v) (x .pressure .v) (x .a .v) d (start .pre .limits) near (x .w) 0 (start .pre .near-wet)
+    (ap not (sym (tested .before .at-most .ensures)) ∙ tested .if1 .left) refl refl m
+    (subst (λ (e : ℤ). IsByVapour e d m)
+    (c .over .ensures .value
     ∙ ap (λ (z : ℤ). rounded z parts)
     (worked .exact .ensures .value ∙ ap (λ (f : ℤ). exact (x .w) f (x .a .v) (x .pressure .v) (x .dry .v) (x .wet .v)) (worked .before .water-factor .ensures .value)))
-    (c .by-vapour .ensures))
+    is)
 
 pub on-water-spec : {M : Type 1} → statement M
-on-water-spec =
-    tie.close
-    (tie.spec
-    at-most-requires
-    returns
-    water-factor-requires
-    exact-requires
-    over-requires
-    by-vapour-requires
-    returns-2)
+on-water-spec = tie.close (tie.spec at-most-requires returns water-factor-requires exact-requires over-requires returns-2)
