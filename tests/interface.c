@@ -1,5 +1,6 @@
 /* What the examples do not show of the C interface. Files are listed into rooms of every length: refused 17 with the bytes needed, every
- * byte as it was, wherever the listing does not fit; else the text, and every byte behind it as it was. Messages are heard: 8 for the
+ * byte as it was, wherever the listing does not fit; else the text, and every byte behind it as it was. Single records are read of good
+ * and of broken files. Messages are heard: 8 for the
  * minute of the channel's newest, 19 with the minutes between for an earlier one, and every word of the store as it was. The wet bulb
  * has states 0 to 2, each of its minutes its own, and humidity goes by it. */
 #include <stdio.h>
@@ -36,6 +37,37 @@ static int lists(const uint8_t *file, size_t length, const char *text)
     return 0;
 }
 
+/* The record with this index is this one, or all 0. */
+static int stands(const uint8_t *file, size_t length, size_t index, const zhitomrak_record *record)
+{
+    static const zhitomrak_record nothing;
+    zhitomrak_record found = zhitomrak_record_at(file, length, index);
+    if (memcmp(&found, record ? record : &nothing, sizeof found) == 0)
+        return 0;
+    printf("interface: record %zu of %s is wrong\n", index, name);
+    return 1;
+}
+
+static int singles(const uint8_t *example, size_t length)
+{
+    static const zhitomrak_record tendency = {.kind = 2, .minute = 280, .first = -18, .second = 179};
+    static const zhitomrak_record early = {.kind = 2, .minute = 24, .first = -18, .second = 179};
+    uint8_t broken[15];
+    name = "the example";
+    int wrong = stands(example, length, 0, &tendency) || stands(example, length, 1, NULL) || stands(example, length, SIZE_MAX, NULL);
+    name = "the example cut";
+    wrong = wrong || stands(example, length - 1, 0, NULL) || stands(example, 11, 0, NULL) || stands(example, 3, 0, NULL) ||
+            stands(example, 0, 0, NULL);
+    name = "the example with another version and too early a minute";
+    memcpy(broken, example, sizeof broken);
+    broken[2] = 9;
+    broken[9] = 0;
+    wrong = wrong || stands(broken, sizeof broken, 0, &early);
+    name = "the example with no kind";
+    broken[4] = 5;
+    return wrong || stands(broken, sizeof broken, 0, NULL);
+}
+
 static int files(void)
 {
     /* document 01's example, the same cut by a byte, and files without a record and without a byte */
@@ -51,7 +83,7 @@ static int files(void)
     if (lists(none, sizeof none, "WT 1 0\n"))
         return 1;
     name = "a file without a byte";
-    return lists(none, 0, "refused 18 at 0\n");
+    return lists(none, 0, "refused 18 at 0\n") || singles(example, sizeof example);
 }
 
 /* A message of a bulb, the wheelhouse thermometer or the barometer, and what hearing it comes to. */

@@ -1,8 +1,9 @@
-//! Watch files: random records written by both, and good, damaged, cut and extended files read and listed by both.
+//! Watch files: random records written by both, and good, damaged, cut and extended files read and listed by both, and single records of
+//! them by the proved side beside what stands there.
 
 use reference::{humidity, listing, pressure, vapour, watchfile as independent, wind};
 use zhitomrak::watchfile as proved;
-use zhitomrak::{Humidity, Tendency, Wind};
+use zhitomrak::{raw, Humidity, Tendency, Wind};
 
 use crate::pair::{independent_refusal, proved_refusal};
 use crate::random::Random;
@@ -86,16 +87,18 @@ fn hex(bytes: &[u8]) -> String {
     bytes.iter().map(|b| format!("{b:02x}")).collect()
 }
 
+/// The bytes of each field of a body.
+fn sizes(kind: u8) -> &'static [usize] {
+    match kind {
+        1 => &[2],
+        2 => &[2, 1],
+        3 => &[2, 2],
+        _ => &[2, 2, 2, 1, 2],
+    }
+}
+
 /// The bytes of records, right or wrong, laid out here and by neither side: figures are cut to their bytes.
 pub fn bytes_of(records: &[Record]) -> Vec<u8> {
-    let sizes = |kind: u8| -> &[usize] {
-        match kind {
-            1 => &[2],
-            2 => &[2, 1],
-            3 => &[2, 2],
-            _ => &[2, 2, 2, 1, 2],
-        }
-    };
     let mut file = vec![0x57, 0x54, 1, records.len() as u8];
     let mut offset = 4 + 8 * records.len();
     for &(minute, (kind, _)) in records {
@@ -110,6 +113,29 @@ pub fn bytes_of(records: &[Record]) -> Vec<u8> {
         }
     }
     file
+}
+
+/// What stands in any bytes as the record with an index, read here and by neither side, if contents, kind, row and body are there.
+fn standing(file: &[u8], index: usize) -> Option<Record> {
+    let row = file.get(4 + 8 * index..12 + 8 * index)?;
+    let kind = row[0];
+    if index >= usize::from(file[3]) || !(1..=4).contains(&kind) {
+        return None;
+    }
+    let mut at = usize::from(u16::from_le_bytes([row[2], row[3]]));
+    let mut figures = [0; 5];
+    for (place, &size) in sizes(kind).iter().enumerate() {
+        let field = file.get(at..at + size)?;
+        let signed = (kind, place) == (2, 0) || (kind, place) == (4, 4);
+        figures[place] = match *field {
+            [low, high] if signed => i32::from(i16::from_le_bytes([low, high])),
+            [low, high] => i32::from(u16::from_le_bytes([low, high])),
+            _ => i32::from(field[0]),
+        };
+        at += size;
+    }
+    let minute = u32::from_le_bytes([row[4], row[5], row[6], row[7]]);
+    Some((minute, (kind, figures)))
 }
 
 /// So many bytes were laid.
@@ -153,6 +179,15 @@ pub fn both_read(tally: &mut Tally, kind: &'static str, file: &[u8]) {
         .map(|records| records.iter().map(from_independent).collect())
         .map_err(independent_refusal);
     tally.same(kind, b.is_err(), &a, &b, || format!("read {}", hex(file)));
+    for index in [0, 1, 6, 47] {
+        let a = from_proved(raw::record(file, index));
+        let there = standing(file, index);
+        // where nothing stands all is 0, and no kind is shown as the last
+        let b = there.unwrap_or((0, (4, [0; 5])));
+        tally.same("files, single records", there.is_none(), &a, &b, || {
+            format!("record {index} of {}", hex(file))
+        });
+    }
 }
 
 /// Both list a file, the proved side into room for every listing, into just enough and into a byte less: the text, or the bytes
