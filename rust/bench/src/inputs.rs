@@ -69,7 +69,13 @@ pub fn open_independent(barometer: &Barometer) -> station::Store {
 /// A certificate that has none of the readings.
 pub const NARROW: Barometer = Barometer {
     mm_hg: false,
-    points: [(10850, -12), (10900, 3), (10950, 8), (10980, -4), (11000, 25)],
+    points: [
+        (10850, -12),
+        (10900, 3),
+        (10950, 8),
+        (10980, -4),
+        (11000, 25),
+    ],
     readings: (9000, 10800),
 };
 

@@ -226,7 +226,11 @@ fn humidity_refused(number: u32, barometer: &Barometer, bulbs: &Bulbs, asked: &[
     for &m in asked {
         let told = (a.humidity(m - back), b.humidity(m - back));
         same("humidity", told.0.err().map(|r| r.number()), Some(number));
-        same("humidity", told.1.err().map(|r| u32::from(r.number())), Some(number));
+        same(
+            "humidity",
+            told.1.err().map(|r| u32::from(r.number())),
+            Some(number),
+        );
     }
     row(
         &format!("humidity, refused {number}"),
