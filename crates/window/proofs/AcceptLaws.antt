@@ -1,5 +1,5 @@
 -- What the steps of `keep` make is `accepted`, what `accept` answers is `Taken`, and what that says of the newest. Assumes nothing.
-use mathlib.Core.Path.{_≡_, refl, sym, ap}
+use mathlib.Core.Path.{_≡_, refl, sym}
 use mathlib.Core.Bool.{true, false, _&&_}
 use mathlib.Core.List.{List, [], _∷_}
 use Prim.Native.Nat.{ℕ, _+_, _-_, _≤_, _<_, min}
@@ -12,14 +12,10 @@ use Rattle.window.specs.Layout.{MINUTES, WINDOW, cellOf}
 use Rattle.window.specs.Window.{whole, next, mark, wiped, accepted, takes, Taken}
 use Rattle.window.proofs.PresentLaws.{and-no}
 
-pub accepted-is : (w w1 w2 : List ℕ) (m v n k : ℕ) → n ≡ min (m - next w) MINUTES → w1 ≡ wiped w (m - n) (m - (m - n))
-    → w2 ≡ mark w1 m → k ≡ cellOf m → set (set w2 k v) 0 (m + 1) ≡ accepted w m v
+pub accepted-is : (w w1 : List ℕ) (m v k : ℕ) → w1 ≡ mark (wiped w (m - min (m - next w) MINUTES) (min (m - next w) MINUTES)) m
+    → k ≡ cellOf m → set (set w1 k v) 0 (m + 1) ≡ accepted w m v
 unfolding accepted
-accepted-is w w1 w2 m v n k en e1 e2 ek =
-    rw (ek, e2, e1, back) (ap (λ (x : ℕ). set (set (mark (wiped w (m - x) x) m) (cellOf m) v) 0 (m + 1)) en)
-  where
-    back : m - (m - n) ≡ n
-    back = omega arith
+accepted-is w w1 m v k e ek = rw (ek, e)
 
 module _ (w : List ℕ) (m v : ℕ) where
   refused : takes w m ≡ false → Taken w w m v false

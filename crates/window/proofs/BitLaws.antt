@@ -1,15 +1,15 @@
 -- What clearing or setting a bit does to each bit of a word. Both put a digit between the digits above it and those below it
 -- (`put`), and every other bit is read from those alone. Assumes nothing.
 use mathlib.Core.Path.{_≡_, refl, sym, ap, _∙_, subst}
-use Prim.Native.Nat.{ℕ, _+_, _-_, _*_, _/_, _%_, _^_, _≤_, _<_}
-use native.Mathlib.Nat.{mod-lt, pow-suc}
+use Prim.Native.Nat.{ℕ, suc, _+_, _-_, _*_, _/_, _%_, _^_, _≤_, _<_}
+use native.Mathlib.Nat.{mod-lt, pow-suc, le-refl}
 use native.Mathlib.Numerals.{add-one}
 use native.Mathlib.Omega.{arith}
 use native.Mathlib.Decide.{ℕ-discrete, decLt}
 use borrow.Author.Tests.{eq-eqb, ne-eqb}
 use lib.Arith.{digits-lt, digits-mod, digits-div}
 use lib.Dec.{lit<}
-use lib.Pow.{pow-pos, pow-add, shr-lt, shr-shr, split, high, low, field, mod-mod-pow}
+use lib.Pow.{pow-pos, pow-mono, pow-add, shr-lt, shr-shr, split, high, low, field, mod-mod-pow}
 use Rattle.window.specs.Bits.{bit, cleared, marked}
 
 pub bit-lt : (w k : ℕ) → bit w k < 2
@@ -36,11 +36,11 @@ module _ (w k b : ℕ) (l : b < 2) where
   put-high : put w k b / 2 ^ k ≡ w / 2 ^ k / 2 * 2 + b
   put-high = high (w / 2 ^ k / 2 * 2 + b) k (mod-lt w (pow-pos k))
 
-  put-above : put w k b / 2 ^ (k + 1) ≡ w / 2 ^ (k + 1)
+  pub put-above : put w k b / 2 ^ (k + 1) ≡ w / 2 ^ (k + 1)
   put-above =
       sym (shr-shr (put w k b) k 1) ∙ ap (λ (x : ℕ). x / 2) put-high ∙ digits-div (w / 2 ^ k / 2) l ∙ shr-shr w k 1
 
-  put-below : put w k b % 2 ^ k ≡ w % 2 ^ k
+  pub put-below : put w k b % 2 ^ k ≡ w % 2 ^ k
   put-below = low (w / 2 ^ k / 2 * 2 + b) k (mod-lt w (pow-pos k))
 
   pub put-same : bit (put w k b) k ≡ b
@@ -70,22 +70,6 @@ odd h ne = omega arith
 put-own : (w k b : ℕ) → w / 2 ^ k ≡ w / 2 ^ k / 2 * 2 + b → w ≡ put w k b
 put-own w k b e = sym (split w k) ∙ ap (λ (x : ℕ). x * 2 ^ k + w % 2 ^ k) e
 
-odd-le : (w q p r : ℕ) → w ≡ (q * 2 + 1) * p + r → p ≤ w
-odd-le w q p r e = omega arith
-
--- with room for one digit more above k a digit 0 there can become 1
-room : (w k d : ℕ) → w < 2 ^ (d + 1 + k) → w / 2 ^ k % 2 ≡ 0 → w + 2 ^ k < 2 ^ (d + 1 + k)
-room w k d h e =
-    let own : w + 2 ^ k ≡ (w / 2 ^ k + 1) * 2 ^ k + w % 2 ^ k = omega (arith, split w k) in
-    let high : w / 2 ^ k < 2 ^ d * 2 = rw two at (shr-lt (d + 1) k h) in
-    rw (own, pow-add 2 (d + 1) k, two) (digits-lt (more (w / 2 ^ k) (2 ^ d) high e) (mod-lt w (pow-pos k)))
-  where
-    two : 2 ^ (d + 1) ≡ 2 ^ d * 2
-    two = ap (λ (x : ℕ). 2 ^ x) (add-one d) ∙ pow-suc 2 d
-
-    more : (h p : ℕ) → h < p * 2 → h % 2 ≡ 0 → h + 1 < p * 2
-    more h p a b = omega arith
-
 -- p is the power that the code divides by
 module _ (w k p : ℕ) (e : p ≡ 2 ^ k) where
   pub power-pos : 0 < p
@@ -104,12 +88,6 @@ module _ (w k p : ℕ) (e : p ≡ 2 ^ k) where
     unfolding marked
     unset-marked = rw (← bit-by, eq-eqb (w / p % 2) 0 z, e)
 
-    pub unset-fits : k < 64 → w < 2 ^ 64 → w + p < 2 ^ 64
-    unset-fits l h = rw e (subst (λ (x : ℕ). w < 2 ^ x → w + 2 ^ k < 2 ^ x) back (λ g. room w k (63 - k) g (rw e at z)) h)
-      where
-        back : 63 - k + 1 + k ≡ 64
-        back = omega arith
-
   module _ (s : w / p % 2 ≡ 0 → ⊥) where
     pub set-cleared : w - p ≡ cleared w k
     unfolding cleared
@@ -118,9 +96,6 @@ module _ (w k p : ℕ) (e : p ≡ 2 ^ k) where
     pub set-marked : w ≡ marked w k
     unfolding marked
     set-marked = rw (← bit-by, ne-eqb (w / p % 2) 0 s)
-
-    pub set-le : p ≤ w
-    set-le = rw e (odd-le w (w / 2 ^ k / 2) (2 ^ k) (w % 2 ^ k) (put-own w k 1 (odd (w / 2 ^ k) (rw e at s))))
 
 -- ---- clearing and setting put a digit
 
@@ -148,3 +123,43 @@ module _ (w k : ℕ) where
           sym (unset-marked w k (2 ^ k) refl z)
           ∙ add-one-to w (w / 2 ^ k / 2) (2 ^ k) (w % 2 ^ k) (put-own w k 0 (even (w / 2 ^ k) z))
       go (no s) = sym (set-marked w k (2 ^ k) refl s) ∙ put-own w k 1 (odd (w / 2 ^ k) s)
+
+-- ---- a word with its bit k set that keeps no bits below k but those below o
+
+abbrev pub over : ℕ → ℕ → ℕ → ℕ
+over w o k = (w / 2 ^ k / 2 * 2 + 1) * 2 ^ k + w % 2 ^ o
+
+module _ (w o k : ℕ) (l : o ≤ k) where
+  pub rest-below : w % 2 ^ o < 2 ^ k
+  rest-below = omega (arith, mod-lt w (pow-pos o), pow-mono l)
+
+  pub over-lt : k < 64 → w < 2 ^ 64 → over w o k < 2 ^ 64
+  over-lt h f =
+      let back : 63 - k + 1 + k ≡ 64 = omega arith in
+      let two : 2 ^ (63 - k + 1) ≡ 2 ^ (63 - k) * 2 = ap (λ (x : ℕ). 2 ^ x) (add-one (63 - k)) ∙ pow-suc 2 (63 - k) in
+      let top : w / 2 ^ k < 2 ^ (63 - k) * 2 =
+      rw two at (shr-lt (63 - k + 1) k (subst (λ (x : ℕ). w < 2 ^ x) (sym back) f)) in
+      subst (λ (x : ℕ). over w o k < 2 ^ x) back
+      (rw (pow-add 2 (63 - k + 1) k, two) (digits-lt (odd-lt (w / 2 ^ k) (2 ^ (63 - k)) top) rest-below))
+    where
+      odd-lt : (h p : ℕ) → h < p * 2 → h / 2 * 2 + 1 < p * 2
+      odd-lt h p a = omega arith
+
+-- each step of the code's sum fits a word
+pub record Room (w p q : ℕ) : Type 0 where
+  pub even : w / p / 2 * 2 < 2 ^ 64
+  pub odd : w / p / 2 * 2 + 1 < 2 ^ 64
+  pub high : (w / p / 2 * 2 + 1) * p < 2 ^ 64
+  pub all : (w / p / 2 * 2 + 1) * p + w % q < 2 ^ 64
+
+pub over-fits : (w o k p q : ℕ) → p ≡ 2 ^ k → q ≡ 2 ^ o → o ≤ k → k < 64 → w < 2 ^ 64 → Room w p q
+over-fits w o k p q ep eq l h f =
+    let whole : (w / p / 2 * 2 + 1) * p + w % q < 2 ^ 64 = rw (ep, eq) (over-lt w o k l h f) in
+    let times : w / p / 2 * 2 + 1 ≤ (w / p / 2 * 2 + 1) * p = le-times (w / p / 2 * 2 + 1) p (power-pos w k p ep) in
+    record { even = omega arith; odd = omega arith; high = omega arith; all = whole }
+  where
+    le-times : (x y : ℕ) → 0 < y → x ≤ x * y
+    le-times x (suc y) g = omega arith
+
+pub unset-fits : (w k p : ℕ) → p ≡ 2 ^ k → w / p % 2 ≡ 0 → k < 64 → w < 2 ^ 64 → w + p < 2 ^ 64
+unset-fits w k p e z l h = rw (unset-marked w k p e z, marked-put w k) (over-lt w k k (le-refl k) l h)

@@ -1,6 +1,9 @@
 pub mod BitLaws
 pub mod CountLaws
 pub mod WordLaws
+pub mod StretchLaws
+pub mod WipeLaws
+pub mod JumpLaws
 pub mod PresentLaws
 pub mod AcceptLaws
 pub mod KeptLaws

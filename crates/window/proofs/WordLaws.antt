@@ -134,14 +134,7 @@ wiped-out (suc n) w m j e out =
     wiped-out n (clear w m) (m + 1) j (t .long ∙ e) (λ i p q. out i (omega arith) (omega arith))
     ∙ t .other j (out m (omega arith) (omega arith))
 
--- a turn of wiping
-pub wiped-step : (w : List ℕ) (m to : ℕ) → m < to → wiped w m (to - m) ≡ wiped (clear w m) (m + 1) (to - (m + 1))
-unfolding wiped
-wiped-step w m to l = ap (wiped w m) left
-  where
-    left : to - m ≡ suc (to - (m + 1))
-    left = omega arith
-
+-- nothing left to wipe
 pub wiped-none : (w : List ℕ) (m to : ℕ) → to ≤ m → wiped w m (to - m) ≡ w
 unfolding wiped
 wiped-none w m to l = ap (wiped w m) left

@@ -4,8 +4,8 @@ ghost use mathlib.Core.Path.{_≡_};
 ghost use Prim.Native.Nat.{ℕ, _+_, _-_, _*_, _/_, _%_, _^_, _≤_, _<_, min, max};
 ghost use lib.ListN.{length, getD};
 ghost use Rattle.window.specs.Layout.{MINUTES, WINDOW, wordOf, cellOf};
-ghost use Rattle.window.specs.Bits.{bit, cleared, marked, total};
-ghost use Rattle.window.specs.Window.{next, bitOf, present, kept, clear, mark, wiped, accepted, Taken, absents};
+ghost use Rattle.window.specs.Bits.{bit, marked, total};
+ghost use Rattle.window.specs.Window.{next, bitOf, present, kept, mark, wiped, accepted, Taken, absents};
 
 // Minutes kept for a channel: the newest and those before it.
 pub const MINUTES: u64 = 256;
@@ -47,15 +47,6 @@ fn bit(w: u64, k: u64) -> u64
     w / number::power(k) % 2
 }
 
-// w with its bit k cleared.
-fn cleared(w: u64, k: u64) -> u64
-    requires { ⌜ k < 64 ⌝ }
-    ensures { λ r. ⌜ r ≡ cleared w k ⌝ }
-{
-    let p = number::power(k);
-    if w / p % 2 == 0 { w } else { w - p }
-}
-
 // w with its bit k set.
 fn marked(w: u64, k: u64) -> u64
     requires { ⌜ (k < 64) × (w < 2 ^ 64) ⌝ }
@@ -95,28 +86,6 @@ fn heard_among(window: &[u64], from: u64, n: u64) -> u64
     sum + ones_in(window[i], at % 64, to - at)
 }
 
-// Marks a minute as absent.
-fn clear(window: &mut [u64], m: u64)
-    requires { ⌜ length (now window) ≡ WINDOW ⌝ }
-    ensures { λ r. ⌜ now (window .exit) ≡ clear (now (window .entry)) m ⌝ }
-{
-    let i = word_of(m);
-    let w = window[i];
-    window[i] = cleared(w, m % 64);
-}
-
-// Marks the minutes from `from` up to `to`, not included, as absent, one after the other.
-fn wipe(window: &mut [u64], from: u64, to: u64)
-    requires { ⌜ (length (now window) ≡ WINDOW) × (from ≤ to) ⌝ }
-    ensures { λ r. ⌜ now (window .exit) ≡ wiped (now (window .entry)) from (to - from) ⌝ }
-{
-    let mut m = from;
-    while m < to {
-        clear(window, m);
-        m += 1;
-    }
-}
-
 // Marks a minute as heard.
 fn mark(window: &mut [u64], m: u64)
     requires { ⌜ length (now window) ≡ WINDOW ⌝ }
@@ -125,6 +94,57 @@ fn mark(window: &mut [u64], m: u64)
     let i = word_of(m);
     let w = window[i];
     window[i] = marked(w, m % 64);
+}
+
+// Marks a minute as heard, and those from `from` up to it, which share its word, as absent.
+fn mark_after(window: &mut [u64], from: u64, m: u64)
+    requires { ⌜ (length (now window) ≡ WINDOW) × (from ≤ m) × (from / 64 ≡ m / 64) ⌝ }
+    ensures { λ r. ⌜ now (window .exit) ≡ mark (wiped (now (window .entry)) from (m - from)) m ⌝ }
+{
+    let i = word_of(m);
+    let w = window[i];
+    let p = number::power(m % 64);
+    window[i] = (w / p / 2 * 2 + 1) * p + w % number::power(from % 64);
+}
+
+// Marks the minutes from `from` up to `to`, the first of a word, as absent: the first word from its minute on, the others whole.
+fn wipe(window: &mut [u64], from: u64, to: u64)
+    requires { ⌜ (length (now window) ≡ WINDOW) × (from < to) × (to % 64 ≡ 0) ⌝ }
+    ensures { λ r. ⌜ now (window .exit) ≡ wiped (now (window .entry)) from (to - from) ⌝ }
+{
+    let i = word_of(from);
+    let w = window[i];
+    window[i] = w % number::power(from % 64);
+    let mut at = from - from % 64 + 64;
+    while at < to {
+        let k = word_of(at);
+        window[k] = 0;
+        at += 64;
+    }
+}
+
+// Marks a minute as heard, and those from t up to it as absent, no more of them than the window has.
+fn jump(window: &mut [u64], t: u64, m: u64)
+    requires { ⌜ (length (now window) ≡ WINDOW) × (t ≤ m) ⌝ }
+    ensures { λ r. ⌜ now (window .exit) ≡ mark (wiped (now (window .entry)) (m - min (m - t) MINUTES) (min (m - t) MINUTES)) m ⌝ }
+{
+    if t == m {
+        mark(window, m);
+        return;
+    }
+    let start = m - m % 64;
+    if start <= t {
+        mark_after(window, t, m);
+        return;
+    }
+    if m - t < MINUTES - 1 {
+        wipe(window, t, start);
+        mark_after(window, start, m);
+        return;
+    }
+    // none that was heard is within reach of m
+    wipe(window, 0, MINUTES);
+    mark(window, m);
 }
 
 // a - b, or 0.
@@ -152,9 +172,7 @@ fn keep(window: &mut [u64], m: u64, value: u64)
     ensures { λ r. ⌜ now (window .exit) ≡ accepted (now (window .entry)) m value ⌝ }
 {
     let t = window[NEXT];
-    let n = smaller(m - t, MINUTES);
-    wipe(window, m - n, m);
-    mark(window, m);
+    jump(window, t, m);
     let k = cell_of(m);
     window[k] = value;
     window[NEXT] = m + 1;

@@ -1,14 +1,15 @@
 // A message as it comes: 16 bytes in, one of six kinds and its minute out, or the first refusal of 1 to 6 that holds.
 ghost use mathlib.Core.Path.{_≡_};
 ghost use Prim.Native.Nat.{_+_, _≤_};
-ghost use lib.ListN.{length};
+ghost use lib.ListN.{length, drop};
 ghost use lib.Ieee.{binary32, ofBits};
+ghost use Rattle.number.specs.Refusal.{answer};
 ghost use Rattle.quantity.specs.States.{isState};
 ghost use Rattle.octets.specs.Bytes.{le32};
 ghost use Rattle.wire.specs.Bytes.{stray, noState};
 ghost use Rattle.wire.specs.Finite.{isFinite, Finite};
 ghost use Rattle.wire.specs.Kinds.{kind};
-ghost use Rattle.wire.specs.Decode.{numberOf, decoded, decodedAs};
+ghost use Rattle.wire.specs.Decode.{numberOf, wireTests, sent, decoded, decodedAs};
 use quantity::BulbState;
 use quantity::Minute;
 
@@ -160,6 +161,31 @@ fn kind_of(channel: u8, state: u8, x: f32, y: f32) -> Message
     Message::WetBulb(BulbState::numbered(state as u32), x)
 }
 
+// What sixteen bytes say whose channel and state there are and that have no stray: a message and its minute, or refusal 5 or 6.
+fn timed(bytes: &[u8]) -> Decoded
+    requires { ⌜ length (now bytes) ≡ 16 ⌝ }
+    ensures { λ r. ⌜ decodedAs r ≡ answer (drop 4 (wireTests (now (bytes .entry)))) (sent (now (bytes .entry))) ⌝ }
+{
+    let minute = word(bytes, 4);
+    if !Minute::holds(minute) {
+        return Decoded::Refused(MessageRefusal::MinuteTooLate);
+    }
+    let x = word(bytes, 8);
+    if !is_finite(x) {
+        return Decoded::Refused(MessageRefusal::NotFinite);
+    }
+    let y = word(bytes, 12);
+    if !is_finite(y) {
+        return Decoded::Refused(MessageRefusal::NotFinite);
+    }
+    let channel = bytes[0];
+    let state = bytes[1];
+    Decoded::At(
+        Minute(minute),
+        kind_of(channel, state, float_of(x), float_of(y)),
+    )
+}
+
 // What the bytes say: a message and its minute, or the first of refusals 1 to 6 that holds.
 pub fn decode(bytes: &[u8]) -> Decoded
     ensures { λ r. ⌜ decodedAs r ≡ decoded (now (bytes .entry)) ⌝ }
@@ -177,21 +203,5 @@ pub fn decode(bytes: &[u8]) -> Decoded
     if has_no_state(bytes) {
         return Decoded::Refused(MessageRefusal::NoSuchState);
     }
-    let minute = word(bytes, 4);
-    if !Minute::holds(minute) {
-        return Decoded::Refused(MessageRefusal::MinuteTooLate);
-    }
-    let x = word(bytes, 8);
-    if !is_finite(x) {
-        return Decoded::Refused(MessageRefusal::NotFinite);
-    }
-    let y = word(bytes, 12);
-    if !is_finite(y) {
-        return Decoded::Refused(MessageRefusal::NotFinite);
-    }
-    let state = bytes[1];
-    Decoded::At(
-        Minute(minute),
-        kind_of(channel, state, float_of(x), float_of(y)),
-    )
+    timed(bytes)
 }

@@ -383,7 +383,7 @@ fn main() {
     let (before, newest) = sent.split_at(sent.len() - 6);
     not_later(8, &sent, &newest.repeat(20_000));
     not_later(19, &sent, before);
-    for gap in [2, 4, 16, 64, 256, 300, 1000] {
+    for gap in [2, 4, 16, 64, 128, 200, 256, 300, 1000] {
         hearing(
             &format!("hear, every {gap} minutes"),
             &inputs::watch(&HPA, &WATER, 5_000, gap),

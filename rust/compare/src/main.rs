@@ -42,6 +42,7 @@ fn main() {
     messages::compare(&mut tally, &mut r, 2_500 * times);
     messages::states(&mut tally);
     messages::repeated_or_late(&mut tally, &mut r, 400 * times);
+    messages::silences(&mut tally);
     watches::compare(&mut tally, &mut r, 100 * times);
     heights::compare(&mut tally);
     wind::compare(&mut tally, &mut r, 100_000 * times, 400 * times);

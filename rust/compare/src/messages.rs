@@ -1,8 +1,8 @@
 //! Messages: random, damaged, and bent towards every edge of a value. Each is sent beside good readings of the other channels, so
-//! that the questions then show what was kept of it. Every state on every channel. And messages that are repeated or late, by every
-//! edge of how late.
+//! that the questions then show what was kept of it. Every state on every channel. Messages that are repeated or late, by every edge
+//! of how late. And silences of every length.
 
-use crate::pair::{barometer, message, not_later, Chosen, Pair, LAST};
+use crate::pair::{barometer, message, not_later, tenths, Chosen, Pair, LAST};
 use crate::random::Random;
 use crate::tally::Tally;
 
@@ -216,6 +216,37 @@ pub fn repeated_or_late(tally: &mut Tally, r: &mut Random, rounds: u64) {
                 let minute = u32::from_le_bytes([m[4], m[5], m[6], m[7]]);
                 newest[m[0] as usize] = Some(minute);
                 pair.ask_all(tally, "messages, what was kept", minute);
+            }
+        }
+    }
+}
+
+/// The minutes that a channel keeps, and the longest silence.
+const KEPT: u32 = 256;
+const SILENT: u32 = 1_100;
+
+/// The barometer sent each minute, falls silent and sends again: silences of every length, begun at every place of its window. Each
+/// minute that can still be kept is then asked for, and one on either side; the wheelhouse had its reading until the silence, so a
+/// minute that is left is answered with its own pressure.
+pub fn silences(tally: &mut Tally) {
+    for place in 0..KEPT {
+        let mut full = Pair::open(tally, &Chosen::plain(false)).expect("plain settings open");
+        let newest = 4 * KEPT + place;
+        for minute in newest - (KEPT - 1)..=newest {
+            full.hear(
+                tally,
+                "silences, heard",
+                &tenths(0, minute, 9_000 + (minute % 1_000) as i32, 0),
+            );
+            full.hear(tally, "silences, heard", &good(1, minute, false));
+        }
+        let mut pair = full.clone();
+        for silent in 0..=SILENT {
+            pair.back_to(&full);
+            let minute = newest + silent + 1;
+            pair.hear(tally, "silences, heard", &good(0, minute, false));
+            for asked in minute - KEPT..=minute + 1 {
+                pair.pressure(tally, "silences, asked", asked);
             }
         }
     }

@@ -120,6 +120,7 @@ pub fn independent<T>(
 }
 
 /// The two stores, and what they were told since they were opened.
+#[derive(Clone)]
 pub struct Pair {
     proved: Store,
     independent: station::Store,
@@ -240,6 +241,13 @@ impl Pair {
         self.tendency(tally, kind, minute);
         self.wind(tally, kind, minute);
         self.humidity(tally, kind, minute);
+    }
+
+    /// Both as they were before: what they heard since is forgotten.
+    pub fn back_to(&mut self, before: &Pair) {
+        self.proved.clone_from(&before.proved);
+        self.independent.clone_from(&before.independent);
+        self.heard.truncate(before.heard.len());
     }
 
     /// Only the last n messages still matter, so no more of them are remembered.

@@ -1,6 +1,4 @@
 -- `keep` meets its contract: it is `accepted`, step for step. Assumes nothing.
-use native.Mathlib.Omega.{arith}
-use lib.ListN.{length-set}
 use Rattle.window.proofs.AcceptLaws.{accepted-is}
 use borrow.Author.Needs.{needs}
 use Rattle.window.proofs.keep.Statement.{statement}
@@ -9,20 +7,8 @@ use Rattle.window.proofs.keep.Tie as tie
 slice-read-t : tie.Need-slice-read-t
 slice-read-t c = search needs
 
-sub-smaller : tie.Need-sub-smaller
-sub-smaller c = search needs
-
-smaller-requires : tie.Need-smaller-requires
-smaller-requires c κs = search needs
-
-sub-wipe : tie.Need-sub-wipe
-sub-wipe c = search needs
-
-wipe-requires : tie.Need-wipe-requires
-wipe-requires c κs = search needs
-
-mark-requires : tie.Need-mark-requires
-mark-requires c κs = search needs
+jump-requires : tie.Need-jump-requires
+jump-requires c κs = search needs
 
 cell-of-requires : tie.Need-cell-of-requires
 cell-of-requires c κs = search needs
@@ -37,30 +23,23 @@ add-window : tie.Need-add-window
 add-window c = search needs
 
 slice-write-window-2 : tie.Need-slice-write-window-2
-slice-write-window-2 c = simp length-set (omega arith)
+slice-write-window-2 c = search needs
 
 same-length : tie.Need-same-length
-same-length c = simp length-set (omega arith)
+same-length c = search needs
 
 returns : tie.Need-returns
 returns c =
-    let before-wipe = c .before .before .before .before .before .before .before .before .before in
-    let a = before-wipe .before .before .before .args in
-    accepted-is (a .window .now) (c .before .before .before .before .before .before .before .wipe .last .0)
-    (c .before .before .before .mark .last .0) (a .m) (a .value) (before-wipe .smaller .result) (c .cell-of .result)
-    (before-wipe .smaller .ensures) (c .before .before .before .before .before .before .before .wipe .ensures)
-    (c .before .before .before .mark .ensures) (c .cell-of .ensures)
+    let j = c .before .before .before in
+    let a = j .before .before .before .before .args in
+    accepted-is (a .window .now) (j .jump .last .0) (a .m) (a .value) (c .cell-of .result) (j .jump .ensures) (c .cell-of .ensures)
 
 pub keep-spec : {M : Type 1} → statement M
 keep-spec =
     tie.close
     (tie.spec
     slice-read-t
-    sub-smaller
-    smaller-requires
-    sub-wipe
-    wipe-requires
-    mark-requires
+    jump-requires
     cell-of-requires
     mul-window
     slice-write-window
