@@ -24,7 +24,7 @@ power-requires : tie.Need-power-requires
 power-requires c κs = search needs
 
 div-window : tie.Need-div-window
-div-window c = power-pos 0 (c .before .before .before .before .args .m % 64) (c .power .result) (c .power .ensures)
+div-window c = power-pos 0 _ (c .power .result) (c .power .ensures)
 
 mul-window : tie.Need-mul-window
 mul-window c =
@@ -63,7 +63,7 @@ power-requires-2 : tie.Need-power-requires-2
 power-requires-2 c κs = search needs
 
 rem-window : tie.Need-rem-window
-rem-window c = power-pos 0 (c .before .before .before .before .before .args .from % 64) (c .power2 .result) (c .power2 .ensures)
+rem-window c = power-pos 0 _ (c .power2 .result) (c .power2 .ensures)
 
 add-window-2 : tie.Need-add-window-2
 add-window-2 c =

@@ -35,7 +35,7 @@ power-requires : tie.Need-power-requires Inv-loop μ-loop
 power-requires c κs = search needs
 
 rem-window : tie.Need-rem-window Inv-loop μ-loop
-rem-window c = power-pos 0 (c .before .before .before .before .args .from % 64) (c .power .result) (c .power .ensures)
+rem-window c = power-pos 0 _ (c .power .result) (c .power .ensures)
 
 mul-window : tie.Need-mul-window Inv-loop μ-loop
 mul-window c = search needs
