@@ -1,7 +1,8 @@
 //! The proved library beside the independent implementation in one run: ns a call and their ratio. Both get the same inputs, and
 //! their answers are compared before anything is timed. Each figure is the least of several rounds, taken in turns.
 //!
-//! usage: bench
+//! usage: bench [GAP...]
+//! With gaps, hearing alone is measured, a message every so many minutes.
 
 mod inputs;
 
@@ -81,6 +82,16 @@ fn hearing(name: &str, sent: &[Message]) {
             hear_independent(&mut b, sent)
         },
     );
+}
+
+/// Hears messages that come every so many minutes.
+fn after_gaps(gaps: &[u32]) {
+    for &gap in gaps {
+        hearing(
+            &format!("hear, every {gap} minutes"),
+            &inputs::watch(&HPA, &WATER, 5_000, gap),
+        );
+    }
 }
 
 /// Hears again what is not later: all of it refused by this number, after all the other tests.
@@ -378,17 +389,19 @@ fn main() {
         "{:42} {:>9} {:>9} {:>9}",
         "ns a call", "proved", "plain", "ratio"
     );
+    let gaps: Vec<u32> = std::env::args()
+        .skip(1)
+        .map(|gap| gap.parse().expect("usage: bench [GAP...]"))
+        .collect();
+    if !gaps.is_empty() {
+        return after_gaps(&gaps);
+    }
     let sent = inputs::watch(&HPA, &WATER, 20_000, 1);
     hearing("hear, each minute", &sent);
     let (before, newest) = sent.split_at(sent.len() - 6);
     not_later(8, &sent, &newest.repeat(20_000));
     not_later(19, &sent, before);
-    for gap in [2, 4, 16, 64, 128, 200, 256, 300, 1000] {
-        hearing(
-            &format!("hear, every {gap} minutes"),
-            &inputs::watch(&HPA, &WATER, 5_000, gap),
-        );
-    }
+    after_gaps(&[2, 4, 16, 64, 256, 300, 1000]);
     for count in [1, 16, 256, 2048] {
         stores(count);
     }
