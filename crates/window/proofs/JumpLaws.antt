@@ -85,7 +85,9 @@ module _ (w : List ℕ) (e : length w ≡ WINDOW) (f : Fits w) where
   none-left : (a i : ℕ) → 0 < i → i < CELLS → getD (wiped w a MINUTES) i 0 ≡ 0
   none-left a i p q =
       zero-word 64 (getD (wiped w a MINUTES) i 0) (wiped-fits MINUTES w a e f i)
-      (λ k l. sym (ap₂ (λ (x y : ℕ). bit (getD (wiped w a MINUTES) x 0) y) (word k l) (place k l)) ∙ wiped-in MINUTES w a (minute k) e (omega arith) (omega arith))
+      (λ k l.
+      sym (ap₂ (λ (x y : ℕ). bit (getD (wiped w a MINUTES) x 0) y) (word k l) (place k l))
+      ∙ wiped-in MINUTES w a (minute k) e (omega arith) (omega arith))
     where
       -- the minute of the bit k, among those wiped
       minute : ℕ → ℕ
@@ -134,7 +136,11 @@ module _ (w : List ℕ) (t m : ℕ) (l : t ≤ m) where
     where
       behind : (n : ℕ) → n + 1 ≡ MINUTES → m - n + n ≡ m → mark (wiped w 0 MINUTES) m ≡ jumped w m n
       behind n s b =
-          ap (λ (x : List ℕ). mark x m) (wiped-all w e f 0 (m - n) ∙ ap (wiped w (m - n)) (sym s) ∙ wiped-last w (m - n) n ∙ ap (clear (wiped w (m - n) n)) b)
+          ap (λ (x : List ℕ). mark x m)
+          (wiped-all w e f 0 (m - n)
+          ∙ ap (wiped w (m - n)) (sym s)
+          ∙ wiped-last w (m - n) n
+          ∙ ap (clear (wiped w (m - n) n)) b)
           ∙ mark-clear (wiped w (m - n) n) m (wiped-long n w (m - n) e ∙ e)
 
       go : Dec (m - t + 1 ≡ MINUTES) → mark (wiped w 0 MINUTES) m ≡ jumped w m (min (m - t) MINUTES)

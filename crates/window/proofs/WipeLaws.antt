@@ -1,6 +1,6 @@
 -- What the words are that `wipe` leaves, and `mark_after`: words of 64 bits, of which the first is masked and the others are cleared.
 -- Assumes nothing.
-use mathlib.Core.Path.{_≡_, refl, sym, ap, ap₂, _∙_}
+use mathlib.Core.Path.{_≡_, sym, ap, ap₂, _∙_}
 use mathlib.Core.List.{List}
 use Prim.Native.Nat.{ℕ, _+_, _-_, _*_, _/_, _%_, _^_, _≤_, _<_}
 use native.Mathlib.Nat.{mod-lt, zero-add}
@@ -33,16 +33,20 @@ module _ (w : List ℕ) (at : ℕ) (e : length w ≡ WINDOW) (f : getD w (wordOf
   wiped-end : wiped w at (64 - at % 64) ≡ set w (wordOf at) (getD w (wordOf at) 0 % 2 ^ (at % 64))
   wiped-end =
       wiped-word (64 - at % 64) w at e (omega arith)
-      ∙ ap (set w (wordOf at))
-      (ap₂ (λ (x y : ℕ). getD w (wordOf at) 0 / 2 ^ x * 2 ^ x + y) all refl ∙ ap (λ (x : ℕ). x * 2 ^ 64 + getD w (wordOf at) 0 % 2 ^ (at % 64)) (small (getD w (wordOf at) 0) f) ∙ zero-add _)
+      ∙ ap (set w (wordOf at)) (ap (without x (at % 64)) all ∙ ap (λ (y : ℕ). y * 2 ^ 64 + x % 2 ^ (at % 64)) (small x f) ∙ zero-add _)
     where
+      x : ℕ
+      x = getD w (wordOf at) 0
+
       all : at % 64 + (64 - at % 64) ≡ 64
       all = omega arith
 
   -- a word that has passed
   wiped-whole : at % 64 ≡ 0 → wiped w at 64 ≡ set w (wordOf at) 0
-  wiped-whole z =
-      ap (wiped w at) (omega arith) ∙ wiped-end ∙ ap (set w (wordOf at)) (ap (λ (x : ℕ). getD w (wordOf at) 0 % 2 ^ x) z ∙ rest-none (getD w (wordOf at) 0))
+  wiped-whole z = ap (wiped w at) (omega arith) ∙ wiped-end ∙ ap (set w (wordOf at)) none
+    where
+      none : getD w (wordOf at) 0 % 2 ^ (at % 64) ≡ 0
+      none = ap (λ (x : ℕ). getD w (wordOf at) 0 % 2 ^ x) z ∙ rest-none (getD w (wordOf at) 0)
 
 pub set-fits : (w : List ℕ) (i v : ℕ) → i < length w → v < 2 ^ 64 → Fits w → Fits (set w i v)
 set-fits w i v l h f j = go (ℕ-discrete j i)

@@ -2,11 +2,10 @@
 -- Assumes nothing.
 use mathlib.Core.Path.{sym}
 use Prim.Native.Nat.{_%_}
-use native.Mathlib.Nat.{le-refl}
 use native.Mathlib.Omega.{arith}
 use lib.ListN.{getD}
 use borrow.Author.Needs.{needs}
-use Rattle.window.proofs.BitLaws.{power-pos, over-fits}
+use Rattle.window.proofs.BitLaws.{power-pos, over-fits, over-alone}
 use Rattle.window.proofs.WipeLaws.{mark-wiped}
 use Rattle.window.proofs.mark_after.Statement.{statement}
 use Rattle.window.proofs.mark_after.Tie as tie
@@ -30,34 +29,22 @@ mul-window : tie.Need-mul-window
 mul-window c =
     let s = c .before in
     let i = s .before .word-of .result in
-    let k = s .before .before .before .args .m % 64 in
-    record {
-      fits =
-          over-fits (getD (s .before .before .before .args .window .now) i 0) k k (c .power .result) (c .power .result) (c .power .ensures)
-          (c .power .ensures) (le-refl k) (omega arith) (s .slice-known2 .given i .fits) .even;
-    }
+    let x = getD (s .before .before .before .args .window .now) i 0 in
+    record { fits = over-alone x _ (c .power .result) (c .power .ensures) (search needs) (s .slice-known2 .given i .fits) .even }
 
 add-window : tie.Need-add-window
 add-window c =
     let s = c .before in
     let i = s .before .word-of .result in
-    let k = s .before .before .before .args .m % 64 in
-    record {
-      fits =
-          over-fits (getD (s .before .before .before .args .window .now) i 0) k k (c .power .result) (c .power .result) (c .power .ensures)
-          (c .power .ensures) (le-refl k) (omega arith) (s .slice-known2 .given i .fits) .odd;
-    }
+    let x = getD (s .before .before .before .args .window .now) i 0 in
+    record { fits = over-alone x _ (c .power .result) (c .power .ensures) (search needs) (s .slice-known2 .given i .fits) .odd }
 
 mul-window-2 : tie.Need-mul-window-2
 mul-window-2 c =
     let s = c .before in
     let i = s .before .word-of .result in
-    let k = s .before .before .before .args .m % 64 in
-    record {
-      fits =
-          over-fits (getD (s .before .before .before .args .window .now) i 0) k k (c .power .result) (c .power .result) (c .power .ensures)
-          (c .power .ensures) (le-refl k) (omega arith) (s .slice-known2 .given i .fits) .high;
-    }
+    let x = getD (s .before .before .before .args .window .now) i 0 in
+    record { fits = over-alone x _ (c .power .result) (c .power .ensures) (search needs) (s .slice-known2 .given i .fits) .high }
 
 power-requires-2 : tie.Need-power-requires-2
 power-requires-2 c κs = search needs

@@ -85,7 +85,8 @@ loop-again c =
       omega arith,
       search needs,
       set-fits (l .window) (c .word-of2 .result) 0 (search needs) (lit< tt) (l .inv .3),
-      wiped-next (l .window) (l .at) to (l .inv .2) (l .inv .3) (search needs) (search needs) _ (ap (λ (i : ℕ). set (l .window) i 0) (c .word-of2 .ensures)) (l .inv .1)
+      wiped-next (l .window) (l .at) to (l .inv .2) (l .inv .3) (search needs) (search needs) _
+          (ap (λ (i : ℕ). set (l .window) i 0) (c .word-of2 .ensures)) (l .inv .1)
           ∙ l .inv .4,
     )
 
