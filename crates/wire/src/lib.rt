@@ -161,7 +161,7 @@ fn kind_of(channel: u8, state: u8, x: f32, y: f32) -> Message
     Message::WetBulb(BulbState::numbered(state as u32), x)
 }
 
-// What sixteen bytes say whose channel and state there are and that have no stray: a message and its minute, or refusal 5 or 6.
+// The tests of sixteen bytes from the fifth on: refusal 5 or 6, or the message and its minute.
 fn timed(bytes: &[u8]) -> Decoded
     requires { ⌜ length (now bytes) ≡ 16 ⌝ }
     ensures { λ r. ⌜ decodedAs r ≡ answer (drop 4 (wireTests (now (bytes .entry)))) (sent (now (bytes .entry))) ⌝ }
