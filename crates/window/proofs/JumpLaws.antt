@@ -117,24 +117,24 @@ module _ (w : List ℕ) (e : length w ≡ WINDOW) (f : Fits w) where
 -- ---- what `jump` makes of it
 
 -- a minute is heard, and the n before it are absent
-abbrev pub jumped : List ℕ → ℕ → ℕ → List ℕ
-jumped w m n = mark (wiped w (m - n) n) m
+abbrev pub heardAfter : List ℕ → ℕ → ℕ → List ℕ
+heardAfter w m n = mark (wiped w (m - n) n) m
 
 module _ (w : List ℕ) (t m : ℕ) (l : t ≤ m) where
-  pub jumped-some : m - t < MINUTES → mark (wiped w t (m - t)) m ≡ jumped w m (min (m - t) MINUTES)
+  pub jumped-some : m - t < MINUTES → mark (wiped w t (m - t)) m ≡ heardAfter w m (min (m - t) MINUTES)
   jumped-some h = ap₂ (λ (x n : ℕ). mark (wiped w x n) m) (omega arith) (omega arith)
 
-  pub jumped-none : t ≡ m → mark w m ≡ jumped w m (min (m - t) MINUTES)
+  pub jumped-none : t ≡ m → mark w m ≡ heardAfter w m (min (m - t) MINUTES)
   jumped-none s = ap (λ (x : List ℕ). mark x m) (sym (wiped-none w t m (omega arith))) ∙ jumped-some (omega arith)
 
   pub jumped-on : (start : ℕ) → t ≤ start → start ≤ m → m - t < MINUTES
-      → mark (wiped (wiped w t (start - t)) start (m - start)) m ≡ jumped w m (min (m - t) MINUTES)
+      → mark (wiped (wiped w t (start - t)) start (m - start)) m ≡ heardAfter w m (min (m - t) MINUTES)
   jumped-on start p q h = ap (λ (x : List ℕ). mark x m) (sym (wiped-on w t start m p q)) ∙ jumped-some h
 
-  pub jumped-all : length w ≡ WINDOW → Fits w → MINUTES ≤ m - t + 1 → mark (wiped w 0 MINUTES) m ≡ jumped w m (min (m - t) MINUTES)
+  pub jumped-all : length w ≡ WINDOW → Fits w → MINUTES ≤ m - t + 1 → mark (wiped w 0 MINUTES) m ≡ heardAfter w m (min (m - t) MINUTES)
   jumped-all e f h = go (ℕ-discrete (m - t + 1) MINUTES)
     where
-      behind : (n : ℕ) → n + 1 ≡ MINUTES → m - n + n ≡ m → mark (wiped w 0 MINUTES) m ≡ jumped w m n
+      behind : (n : ℕ) → n + 1 ≡ MINUTES → m - n + n ≡ m → mark (wiped w 0 MINUTES) m ≡ heardAfter w m n
       behind n s b =
           ap (λ (x : List ℕ). mark x m)
           (wiped-all w e f 0 (m - n)
@@ -143,6 +143,6 @@ module _ (w : List ℕ) (t m : ℕ) (l : t ≤ m) where
           ∙ ap (clear (wiped w (m - n) n)) b)
           ∙ mark-clear (wiped w (m - n) n) m (wiped-long n w (m - n) e ∙ e)
 
-      go : Dec (m - t + 1 ≡ MINUTES) → mark (wiped w 0 MINUTES) m ≡ jumped w m (min (m - t) MINUTES)
-      go (yes s) = behind (m - t) s (omega arith) ∙ ap (jumped w m) (omega arith)
-      go (no s) = ap (λ (x : List ℕ). mark x m) (wiped-all w e f 0 (m - MINUTES)) ∙ ap (jumped w m) (omega arith)
+      go : Dec (m - t + 1 ≡ MINUTES) → mark (wiped w 0 MINUTES) m ≡ heardAfter w m (min (m - t) MINUTES)
+      go (yes s) = behind (m - t) s (omega arith) ∙ ap (heardAfter w m) (omega arith)
+      go (no s) = ap (λ (x : List ℕ). mark x m) (wiped-all w e f 0 (m - MINUTES)) ∙ ap (heardAfter w m) (omega arith)

@@ -222,7 +222,7 @@ pub fn repeated_or_late(tally: &mut Tally, r: &mut Random, rounds: u64) {
 }
 
 /// The minutes that a channel keeps, and the longest silence.
-const KEPT: u32 = 256;
+const KEPT: u32 = reference::store::KEPT as u32;
 const SILENT: u32 = 1_100;
 
 /// The barometer sent each minute, falls silent and sends again: silences of every length, begun at every place of its window. Each
