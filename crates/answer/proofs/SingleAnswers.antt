@@ -5,6 +5,7 @@ use Rattle.number.specs.Single.{Single, SingleLeft}
 use Rattle.answer.proofs.put_line.Reads as put-line
 use Rattle.answer.proofs.put_opening.Reads as put-opening
 use Rattle.answer.proofs.put_hearing.Reads as put-hearing
+use Rattle.answer.proofs.put_noting.Reads as put-noting
 use Rattle.answer.proofs.put_pressure.Reads as put-pressure
 use Rattle.answer.proofs.put_tendency.Reads as put-tendency
 use Rattle.answer.proofs.put_wind.Reads as put-wind
@@ -29,6 +30,12 @@ single-put-hearing κs a r r′ s s′ p q = p .next ∙ sym (q .next)
 
 pub single-put-hearing-text : SingleLeft put-hearing.Post (λ κs s. s .0 .now)
 single-put-hearing-text κs a r r′ s s′ p q = p .laid ∙ sym (q .laid)
+
+pub single-put-noting : Single put-noting.Post
+single-put-noting κs a r r′ s s′ p q = p .next ∙ sym (q .next)
+
+pub single-put-noting-text : SingleLeft put-noting.Post (λ κs s. s .0 .now)
+single-put-noting-text κs a r r′ s s′ p q = p .laid ∙ sym (q .laid)
 
 pub single-put-pressure : Single put-pressure.Post
 single-put-pressure κs a r r′ s s′ p q = p .next ∙ sym (q .next)

@@ -13,7 +13,7 @@ use Rattle.station.specs.declared.WindAnswer.the-variants as wind
 use Rattle.station.specs.declared.HumidityAnswer.the-variants as humidity
 use Rattle.writer.specs.declared.Written.the-variants as written
 use Rattle.hex.specs.Row.{row}
-use Rattle.answer.specs.Answer.{openingLine, hearingLine, pressureLine, tendencyLine, windLine, humidityLine, writtenLine}
+use Rattle.answer.specs.Answer.{openingLine, hearingLine, notingLine, pressureLine, tendencyLine, windLine, humidityLine, writtenLine}
 
 pub opened : openingLine settings.Good ≡ letters "open\n"
 opened = refl
@@ -33,6 +33,22 @@ repeated = refl
 pub late : hearingLine (hearing.Late 60) ≡ letters "refused 19 60\n"
 unfolding digits decimal row
 late = refl
+
+pub broken-anemometer : openingLine settings.AnemometerBroken ≡ letters "refused 25\n"
+unfolding digits decimal row
+broken-anemometer = refl
+
+pub noted : notingLine hearing.Heard ≡ letters "noted\n"
+noted = refl
+
+-- an entry without a course
+pub no-course : notingLine (hearing.NoCourse (record { 0 = 820 })) ≡ letters "refused 11 3 820\n"
+unfolding digits decimal row
+no-course = refl
+
+pub outside-dial : notingLine hearing.OutsideDial ≡ letters "refused 23\n"
+unfolding digits decimal row
+outside-dial = refl
 
 -- a block that is no store
 pub no-store : hearingLine hearing.NoStore ≡ letters "refused 255\n"

@@ -52,9 +52,17 @@ abbrev pub answerLine : {A : Type 0} → List ℕ → Answer Numbered A → List
 answerLine line (given a) = line
 answerLine line (refused r) = refusedLine r
 
+-- A word, or the refusal of a message or of an entry.
+abbrev pub heardLine : List ℕ → Hearing → List ℕ
+heardLine word r = answerLine (word ++ end) (heardAs r)
+
 -- `heard`, or `refused 19 60`: sixty minutes late
 abbrev pub hearingLine : Hearing → List ℕ
-hearingLine r = answerLine (letters "heard" ++ end) (heardAs r)
+hearingLine r = heardLine (letters "heard") r
+
+-- `noted`, or `refused 11 3 820`: no course at minute 820
+abbrev pub notingLine : Hearing → List ℕ
+notingLine r = heardLine (letters "noted") r
 
 -- `P 280 9900`: minute, tenths of hPa
 abbrev pub pressureLine : ℕ → PressureAnswer → List ℕ

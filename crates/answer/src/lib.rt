@@ -11,7 +11,7 @@ ghost use Rattle.station.specs.declared.WindAnswer.the-variants as wind;
 ghost use Rattle.station.specs.declared.HumidityAnswer.the-variants as humidity;
 ghost use Rattle.text.specs.Letters.{letters};
 ghost use Rattle.text.specs.Text.{field, end, Put};
-ghost use Rattle.answer.specs.Answer.{fields, refusedLine, numberLine, openingLine, hearingLine, pressureLine, tendencyLine, windLine, humidityFields, humidityLine, fileLine, writtenLine};
+ghost use Rattle.answer.specs.Answer.{fields, refusedLine, numberLine, openingLine, heardLine, hearingLine, notingLine, pressureLine, tendencyLine, windLine, humidityFields, humidityLine, fileLine, writtenLine};
 use humidity::HumidityFigures;
 use quantity::Degrees;
 use quantity::Hectopascals;
@@ -91,15 +91,31 @@ pub fn put_opening(text: &mut [u8], at: usize, r: Checked) -> usize
     put_word(text, at, b"open", settings::number(r))
 }
 
-// Puts `heard`, or the refusal; behind 19 stands how many minutes late the message was.
-pub fn put_hearing(text: &mut [u8], at: usize, r: Hearing) -> usize
-    ensures { λ place. ⌜ Put (now (text .entry)) (now (text .exit)) at (hearingLine r) place ⌝ }
+// Puts a word where it was heard, or the refusal. Behind 19 stands how many minutes late it was, behind 11 the channel of the course and
+// the minute.
+fn put_heard(text: &mut [u8], at: usize, word: &[u8], r: Hearing) -> usize
+    ensures { λ place. ⌜ Put (now (text .entry)) (now (text .exit)) at (heardLine (now (word .entry)) r) place ⌝ }
 {
     let n = store::number(r);
     match r {
         Hearing::Late(minutes) => put_refusal(text, at, &[n as u64, minutes]),
-        _ => put_word(text, at, b"heard", n),
+        Hearing::NoCourse(minute) => put_refusal(text, at, &[n as u64, 3, minute.0 as u64]),
+        _ => put_word(text, at, word, n),
     }
+}
+
+// Puts `heard`, or why the message is refused.
+pub fn put_hearing(text: &mut [u8], at: usize, r: Hearing) -> usize
+    ensures { λ place. ⌜ Put (now (text .entry)) (now (text .exit)) at (hearingLine r) place ⌝ }
+{
+    put_heard(text, at, b"heard", r)
+}
+
+// Puts `noted`, or why the entry is refused.
+pub fn put_noting(text: &mut [u8], at: usize, r: Hearing) -> usize
+    ensures { λ place. ⌜ Put (now (text .entry)) (now (text .exit)) at (notingLine r) place ⌝ }
+{
+    put_heard(text, at, b"noted", r)
 }
 
 // ---- the four questions

@@ -1,19 +1,16 @@
--- A block of zeros into which the settings are written word by word is the laid block, and that is the opened one where the
--- certificate has at most 16 points. Assumes nothing.
+-- A block of zeros into which the settings are written word by word is the opened one. Assumes nothing.
 use mathlib.Core.Path.{_≡_, refl, sym, ap, _∙_}
 use mathlib.Core.List.{List}
 use Prim.Native.Nat.{ℕ, zero, suc, _+_, _≤_, _<_}
-use native.Mathlib.Nat.{zero-add}
 use native.Mathlib.Decide.{ℕ-discrete, decLt}
 use native.Mathlib.Omega.{arith}
-use lib.ListN.{getD, set, length, replicate, List·getD-eq-default}
+use lib.ListN.{getD, set, length, replicate}
 use lib.Seq.{getD-set-same, getD-set-other, ext-getD}
 use borrow.Author.Tests.{lt-ltb, le-ltb}
 use Rattle.settings.specs.declared.Settings.{Settings}
 use Rattle.block.specs.Layout.{SETTINGS, WORDS}
-use Rattle.block.specs.Words.{openedWord, opened, laidWord, laid}
-use Rattle.block.proofs.ListedLaws.{length-listed, getD-listed}
-use Rattle.block.proofs.OpenedLaws.{opened-long, word-at, nothing-heard}
+use Rattle.block.specs.Words.{settingWord, openedWord, opened}
+use Rattle.block.proofs.OpenedLaws.{opened-long, word-at}
 
 pub zeros : (n i : ℕ) → _≡_ {A = ℕ} (getD (replicate n 0) i 0) 0
 zeros zero i = refl
@@ -33,26 +30,13 @@ module _ (f : ℕ → ℕ) (l : List ℕ) (i : ℕ) where
   pub less-left : (v : ℕ) → ((k : ℕ) → i ≤ k → getD l k 0 ≡ 0) → (k : ℕ) → i + 1 ≤ k → getD (set l i v) k 0 ≡ 0
   less-left v rest k b = let ne : k ≡ i → ⊥ = λ e. omega arith in getD-set-other l i k v 0 ne ∙ rest k (omega arith)
 
-laid-at : (g : Settings) (k : ℕ) → k < WORDS → getD (laid g) k 0 ≡ laidWord g k
-laid-at g k h = getD-listed (laidWord g) 0 WORDS k h ∙ ap (laidWord g) (zero-add k)
-
 module _ (g : Settings) (l : List ℕ) (long : length l ≡ WORDS) where
-  pub all-written : ((k : ℕ) → k < SETTINGS → getD l k 0 ≡ openedWord g k) → ((k : ℕ) → SETTINGS ≤ k → getD l k 0 ≡ 0) → l ≡ laid g
-  all-written done rest = ext-getD 0 l (laid g) (long ∙ sym (length-listed (laidWord g) 0 WORDS)) same
+  pub all-written : ((k : ℕ) → k < SETTINGS → getD l k 0 ≡ settingWord g k) → ((k : ℕ) → SETTINGS ≤ k → getD l k 0 ≡ 0) → l ≡ opened g
+  all-written done rest = ext-getD 0 l (opened g) (long ∙ sym (opened-long g)) same
     where
-      same : (k : ℕ) → k < length l → getD l k 0 ≡ getD (laid g) k 0
-      same k b = go (decLt k SETTINGS) ∙ sym (laid-at g k (omega arith))
+      same : (k : ℕ) → k < length l → getD l k 0 ≡ getD (opened g) k 0
+      same k b = go (decLt k SETTINGS) ∙ sym (word-at g k (omega arith))
         where
-          go : Dec (k < SETTINGS) → getD l k 0 ≡ laidWord g k
+          go : Dec (k < SETTINGS) → getD l k 0 ≡ openedWord g k
           go (yes s) = rw (lt-ltb k SETTINGS s) (done k s)
           go (no s) = rw (le-ltb k SETTINGS (omega arith)) (rest k (omega arith))
-
--- a certificate of at most 16 points is laid whole
-pub laid-opened : (g : Settings) → g .count ≤ 16 → laid g ≡ opened g
-laid-opened g few =
-    sym (all-written g (opened g) (opened-long g) (λ k h. word-at g k (omega arith))
-    (λ k h. behind k h (decLt k WORDS)))
-  where
-    behind : (k : ℕ) → SETTINGS ≤ k → Dec (k < WORDS) → getD (opened g) k 0 ≡ 0
-    behind k h (yes b) = word-at g k b ∙ nothing-heard g few k h
-    behind k h (no b) = List·getD-eq-default (opened g) 0 {n = k} (omega (arith, opened-long g))

@@ -12,6 +12,7 @@ use Rattle.number.specs.Refusal.{given}
 use Rattle.number.specs.Whole.{within}
 use Rattle.number.proofs.Sizes.{never, within-size, natural, and-true}
 use Rattle.quantity.specs.Limits.{Limits, inside, pressureLimits, hectopascals, millimetres, wheelhouse, bulb, metresPerSecond, knots, degrees}
+use Rattle.quantity.specs.Convert.{keptDirection}
 use Rattle.quantity.specs.declared.BarometerUnit.{BarometerUnit}
 use Rattle.quantity.specs.declared.BarometerUnit.the-variants.{Hectopascals, Millimetres}
 use Rattle.quantity.specs.States.{stateNumber, isState, stateOf}
@@ -166,3 +167,8 @@ pub received-back : (u : BarometerUnit) (m : List ℕ) (e : Entry) → received 
 received-back u m e r =
     subst (λ (z : Entry). Back u z × (z .channel < CHANNELS)) (received-is u m e r)
     (kind-back u (minute m) (message m) (received-inside u m e r))
+
+-- An apparent wind that was worked out, its direction as it is kept, is read back too.
+pub wind-back : (u : BarometerUnit) (t : ℕ) (z : ℤ) (n : ℕ) → inside metresPerSecond z ≡ true → n ≤ 360 → Back u (pair 2 t m/s z (pos (keptDirection n)))
+wind-back u t z n i h =
+    pair-back u 2 t metresPerSecond m/s (lit< tt, lit< tt) refl z (pos n) (rw (i, le-leb 0 n (omega arith), le-leb n 360 h)) refl refl

@@ -1,13 +1,13 @@
 -- How a reading stands in a cell, and what a cell says: its first figure in the low half, its second in the high half of 32 bits, a
 -- state by its number.
-use mathlib.Core.Bool.{Bool, true, _&&_, _||_, cond}
+use mathlib.Core.Bool.{Bool, true, false, _&&_, _||_, cond}
 use Prim.Native.Nat.{ℕ, _+_, _*_, _/_, _%_}
 use lib.Dec.{eqb, ltb}
 use lib.IntN.{ℤ, pos, natAbs, _+ℤ_, _-ℤ_}
 use Rattle.quantity.specs.Limits.{Limits, inside, pressureLimits, wheelhouse, bulb, metresPerSecond, knots, degrees}
 use Rattle.quantity.specs.States.{stateNumber, isState, stateOf}
 use Rattle.quantity.specs.declared.BarometerUnit.{BarometerUnit}
-use Rattle.message.specs.Receive.{Figure, hPa, mmHg, °C, m/s, kn, deg, wick, none, Entry, pressure, entryOf}
+use Rattle.message.specs.Receive.{Figure, hPa, mmHg, °C, m/s, kn, deg, wick, none, byUnit, itself, nought, Entry, pressure, entryOf}
 use Rattle.cell.specs.declared.Recalled.{Recalled}
 use Rattle.cell.specs.declared.Recalled.the-variants.{Missing, Kept}
 
@@ -83,6 +83,23 @@ soundIn u c v = inside (limitsOf u c) (numberIn c v) && soundBeside c v
 pub data Recall : Type 0 where
   absent : Recall
   recalled : Entry → Recall
+
+abbrev pub isPresent : Recall → Bool
+isPresent absent = false
+isPresent (recalled e) = true
+
+-- Its figures: an absent reading has none.
+abbrev pub first : Recall → Figure
+first absent = none
+first (recalled e) = e .first
+
+abbrev pub second : Recall → Figure
+second absent = none
+second (recalled e) = e .second
+
+-- Whole degrees of a direction or a course; of any other figure 0, and no answer is worked from that.
+abbrev pub inDegrees : Recall → ℕ
+inDegrees x = natAbs (byUnit nought nought nought nought nought itself (pos 0) (second x))
 
 -- A cell that lies outside its channel's limits says nothing.
 abbrev pub cellSays : BarometerUnit → ℕ → ℕ → ℕ → Recall

@@ -7,16 +7,16 @@ use Prim.Native.Nat.{ℕ, zero, suc, _+_, _≤_, _<_}
 use native.Mathlib.Omega.{arith}
 use native.Mathlib.Numerals.{add-one}
 use lib.Dec.{eqb}
-use lib.ListN.{length, getD, take, drop, drop-of-length-le}
+use lib.ListN.{length, getD, drop, drop-of-length-le}
 use lib.Seq.{drop-cons}
-use borrow.Author.Tests.{lt-ltb, le-ltb, le-leb, lt-leb}
+use borrow.Author.Tests.{lt-ltb, le-ltb}
 use Rattle.text.specs.Text.{Put}
 use Rattle.text.proofs.PutLaws.{join, put-nothing}
 use Rattle.line.specs.Words.{Word, before, wordsFrom, words, field, more, fields, same, part, wordAt, wordsAt}
 use Rattle.line.specs.declared.Said.{Said}
 use Rattle.line.specs.declared.Said.the-variants.{Number, NoNumber}
 use Rattle.line.proofs.WordLaws.{WordIs, part-cons, part-length}
-use Rattle.command.specs.Forms.{named, told, Told, ends, behind, letterThen, fieldsTold, fits, listTold, leftTold, wordTold, mayEnd, placeOf, lineTold}
+use Rattle.command.specs.Forms.{named, told, Told, ends, behind, letterThen, fieldsTold, picks, says, fits, listTold, leftTold, wordTold, mayEnd, placeOf, lineTold}
 use Rattle.command.specs.Commands.{table, byTable, remark, commandOf, textOf, verbAt, rowsOf}
 use Rattle.command.specs.Laid.{Leaves, Parses}
 use Rattle.command.specs.declared.Verb.{Verb}
@@ -102,17 +102,13 @@ unfolding fits
 fits-none [] word h = refl
 fits-none (l ∷ ls) word h = absurd (omega arith)
 
-pub fits-low : (form word : List ℕ) → getD form 0 0 < 0x41 → fits form word ≡ true
+pub fits-any : (form word : List ℕ) → picks (getD form 0 0) ≡ false → fits form word ≡ true
 unfolding fits
-fits-low form word h = rw (lt-leb 0x41 (getD form 0 0) h)
+fits-any form word e = rw e
 
-pub fits-high : (form word : List ℕ) → 0x5A < getD form 0 0 → fits form word ≡ true
+pub fits-picked : (form word : List ℕ) {s : Said} → picks (getD form 0 0) ≡ true → told (getD form 0 0) (field word) ≡ s → fits form word ≡ says s
 unfolding fits
-fits-high form word h = rw (le-leb 0x41 (getD form 0 0) (omega arith), lt-leb (getD form 0 0) 0x5A h)
-
-pub fits-capital : (form word : List ℕ) → 0x41 ≤ getD form 0 0 → getD form 0 0 ≤ 0x5A → fits form word ≡ same (field word) (take 1 form)
-unfolding fits
-fits-capital form word h l = rw (le-leb 0x41 (getD form 0 0) h, le-leb (getD form 0 0) 0x5A l)
+fits-picked form word e t = rw (e, t)
 
 pub list-none : (word : List ℕ) {fs : List (List ℕ)} → fs ≡ [] → listTold fs word ≡ ends Misshapen
 unfolding listTold

@@ -8,7 +8,7 @@ use lib.ListN.{getD, drop}
 use Rattle.text.specs.Letters.{letters}
 use Rattle.line.specs.Words.{Word, words, same}
 use Rattle.command.specs.declared.Verb.{Verb}
-use Rattle.command.specs.declared.Verb.the-variants.{Open, Hear, Pressure, Tendency, Wind, Humidity, Read, Write, FeedFile, Log, SaveFile, ListFile, Help}
+use Rattle.command.specs.declared.Verb.the-variants.{Open, Hear, Note, Pressure, Tendency, Wind, Humidity, Read, Write, FeedFile, Log, SaveFile, ListFile, Help}
 use Rattle.command.specs.declared.Fault.the-variants.{NotACommand}
 use Rattle.command.specs.declared.Command.{Command}
 use Rattle.command.specs.declared.Command.the-variants.{Nothing, Wrong}
@@ -25,8 +25,9 @@ row name verb form = record { name = letters name; verb = verb; form = letters f
 
 abbrev pub table : List Row
 table =
-    row "open" Open "uzzzz:zz"
+    row "open" Open "uzzzz:a.:zz"
     ∷ row "hear" Hear "x"
+    ∷ row "note" Note "nnnnn"
     ∷ row "pressure" Pressure "n"
     ∷ row "tendency" Tendency "n"
     ∷ row "wind" Wind "n"
@@ -65,7 +66,7 @@ textOf [] = []
 textOf (r ∷ rs) = r .name ++ (letters " =" ++ (r .form ++ (letters " " ++ textOf rs)))
 
 abbrev pub verbs : List Verb
-verbs = Open ∷ Hear ∷ Pressure ∷ Tendency ∷ Wind ∷ Humidity ∷ Read ∷ Write ∷ FeedFile ∷ Log ∷ SaveFile ∷ ListFile ∷ []
+verbs = Open ∷ Hear ∷ Note ∷ Pressure ∷ Tendency ∷ Wind ∷ Humidity ∷ Read ∷ Write ∷ FeedFile ∷ Log ∷ SaveFile ∷ ListFile ∷ []
 
 abbrev pub verbAt : ℕ → Verb
 verbAt i = getD verbs i Help

@@ -1,17 +1,18 @@
 -- Forms: what the words behind a command's name are, and the numbers that they say.
 -- A form has a letter for each word. Behind a colon stand the forms of the words of a list, which ends the line, with a letter for
--- each field; where they begin with a capital, the one is taken whose capital is the word's first field.
-use mathlib.Core.Bool.{Bool, true, _&&_, cond}
+-- each field; one that begins with a capital or with `a` is for the words whose first field is that capital, or `anemometer`.
+use mathlib.Core.Bool.{Bool, true, false, _&&_, _||_, cond}
 use mathlib.Core.List.{List, [], _∷_, _++_}
 use Prim.Native.Nat.{ℕ, suc, _+_}
 use lib.Dec.{leb, ltb, eqb}
-use lib.ListN.{length, take, getD}
+use lib.ListN.{length, getD}
 use Rattle.text.specs.Letters.{letters}
 use Rattle.line.specs.Words.{Word, words, field, more, fields, same}
 use Rattle.line.specs.Numeral.{whole, signed}
 use Rattle.line.specs.declared.Said.{Said}
 use Rattle.line.specs.declared.Said.the-variants.{Number, NoNumber}
 use Rattle.hex.specs.Hex.{isHex}
+use Rattle.values.specs.Values.{anemometerWord}
 use Rattle.command.specs.declared.Verb.{Verb}
 use Rattle.command.specs.declared.Place.{Place}
 use Rattle.command.specs.declared.Fault.the-variants as fault
@@ -32,7 +33,8 @@ abbrev pub only : Bool → ℕ → Said
 only right n = cond right (Number n) NoNumber
 
 -- What a text says by a letter. n, h and o are whole numbers of 32, 16 and 8 bits, z is one of 32 bits with a sign, u the barometer's
--- unit, q a question, f a file's name, which may be any word, and x bytes in hex. Whatever letter is none of these stands for itself.
+-- unit, q a question, f a file's name, which may be any word, x bytes in hex, and a the word `anemometer`. Whatever letter is none of
+-- these stands for itself.
 unfoldable pub told : ℕ → List ℕ → Said
 told letter s =
     cond (eqb letter 0x6E {- n -}) (whole 4294967295 s)
@@ -43,7 +45,8 @@ told letter s =
     (cond (eqb letter 0x71 {- q -}) (named 1 (words (letters "pressure tendency wind humidity")) s)
     (cond (eqb letter 0x66 {- f -}) (Number 0)
     (cond (eqb letter 0x78 {- x -}) (only (isHex s) 0)
-    (only (same s (letter ∷ [])) letter))))))))
+    (cond (eqb letter 0x61 {- a -}) (only (same s (letters "anemometer")) anemometerWord)
+    (only (same s (letter ∷ [])) letter)))))))))
 
 -- ---- words, from the left
 
@@ -70,12 +73,16 @@ fieldsTold [] (f ∷ fs) = ends Misshapen
 fieldsTold (l ∷ ls) [] = cond (eqb l 0x2E) (behind (0 ∷ []) (fieldsTold ls [])) (ends Misshapen)
 fieldsTold (l ∷ ls) (f ∷ fs) = cond (eqb l 0x2E) (behind (0 ∷ []) (fieldsTold ls (f ∷ fs))) (letterThen l (told l f) (fieldsTold ls fs))
 
--- Whether a form is one for a word: a capital (41 to 5A) at its start has to be the word's first field.
-abbrev pub capital : ℕ → Bool
-capital letter = leb 0x41 letter && leb letter 0x5A
+-- Whether a form is one for a word: a capital (41 to 5A) or a (61) at its start has to be what the word's first field says.
+abbrev pub picks : ℕ → Bool
+picks letter = eqb letter 0x61 || (leb 0x41 letter && leb letter 0x5A)
+
+abbrev pub says : Said → Bool
+says (Number n) = true
+says NoNumber = false
 
 unfoldable pub fits : List ℕ → List ℕ → Bool
-fits form word = cond (capital (getD form 0 0)) (same (field word) (take 1 form)) true
+fits form word = cond (picks (getD form 0 0)) (says (told (getD form 0 0) (field word))) true
 
 -- A word of a list, by the first of some forms that is one for it.
 unfoldable pub listTold : List (List ℕ) → List ℕ → Told Flaw

@@ -6,7 +6,7 @@ ghost use Prim.Native.Nat.{_≤_, _<_};
 ghost use lib.ListN.{length};
 ghost use Rattle.text.specs.Text.{Put};
 ghost use Rattle.line.specs.Words.{words, wordAt, wordsAt, field, fields, fieldsAt};
-ghost use Rattle.command.specs.Forms.{named, told, fits, fieldsTold, listTold, wordTold, lineTold};
+ghost use Rattle.command.specs.Forms.{named, told, picks, fits, fieldsTold, listTold, wordTold, lineTold};
 ghost use Rattle.command.specs.Commands.{verbAt, rowsOf, byTable, commandOf};
 ghost use Rattle.command.specs.Laid.{Lays, Parses};
 use hex::is_hex;
@@ -17,11 +17,13 @@ use line::next_word;
 use line::same;
 use line::signed;
 use line::whole;
+use values::ANEMOMETER;
 
 // What a command does.
 pub enum Verb {
     Open,
     Hear,
+    Note,
     Pressure,
     Tendency,
     Wind,
@@ -143,27 +145,47 @@ fn told(letter: u8, text: &[u8]) -> Said
         }
         return Said::NoNumber;
     }
+    if letter == b'a' {
+        if same(text, b"anemometer") {
+            return Said::Number(ANEMOMETER);
+        }
+        return Said::NoNumber;
+    }
     if same(text, &[letter]) {
         return Said::Number(letter as u64);
     }
     Said::NoNumber
 }
 
-// Whether a form is one for a word: a capital at its start is the word's first field.
+// Whether a letter at a form's start says for which words the form is.
+fn picks(letter: u8) -> bool
+    ensures { λ r. ⌜ r ≡ picks letter ⌝ }
+{
+    if letter == b'a' {
+        return true;
+    }
+    if letter < b'A' {
+        return false;
+    }
+    letter <= b'Z'
+}
+
+// Whether a form is one for a word: a capital or `a` at its start has to be what the word's first field says.
 fn fits(form: &[u8], word: &[u8]) -> bool
     ensures { λ r. ⌜ r ≡ fits (now (form .entry)) (now (word .entry)) ⌝ }
 {
     if form.len() == 0 {
         return true;
     }
-    if form[0] < b'A' {
-        return true;
-    }
-    if b'Z' < form[0] {
+    let letter = form[0];
+    if !picks(letter) {
         return true;
     }
     let to = field_end(word, 0);
-    same(&word[0..to], &form[0..1])
+    match told(letter, &word[0..to]) {
+        Said::NoNumber => false,
+        Said::Number(_) => true,
+    }
 }
 
 // Puts what the fields of a word say by the letters of a form. A point stands for 0, and for no field.
@@ -317,6 +339,7 @@ fn verb_at(row: usize) -> Verb
     let verbs = [
         Verb::Open,
         Verb::Hear,
+        Verb::Note,
         Verb::Pressure,
         Verb::Tendency,
         Verb::Wind,
@@ -328,7 +351,7 @@ fn verb_at(row: usize) -> Verb
         Verb::SaveFile,
         Verb::ListFile,
     ];
-    if row < 12 {
+    if row < 13 {
         return verbs[row];
     }
     Verb::Help
@@ -375,8 +398,9 @@ pub fn parse(line: &[u8], numbers: &mut [u64]) -> Command
                 return Command::Nothing;
             }
             by_table(
-                b"open =uzzzz:zz \
+                b"open =uzzzz:a.:zz \
                 hear =x \
+                note =nnnnn \
                 pressure =n \
                 tendency =n \
                 wind =n \

@@ -2,6 +2,7 @@
 // `command` and an answer text in `answer`, records and messages are `desk`'s; here is what reads, calls and writes.
 ghost use mathlib.Core.Path.{_≡_};
 ghost use Prim.Native.Nat.{min};
+use anemometer::Note;
 use block::Store;
 use command::Command;
 use command::Verb;
@@ -15,6 +16,11 @@ fn smaller(a: usize, b: usize) -> usize
     ensures { λ r. ⌜ r ≡ min a b ⌝ }
 {
     if a < b { a } else { b }
+}
+
+// A number of a line, which has 32 bits.
+fn short(n: u64) -> u32 {
+    (n % 4294967296) as u32
 }
 
 // The first n bytes, or all.
@@ -55,6 +61,21 @@ fn hear(store: &mut Store, word: &[u8]) {
         let k = answer::put_hearing(&mut bytes, 0, r);
         tell(&bytes, k);
     }
+}
+
+// Hears the entry that the first five numbers say.
+fn note(store: &mut Store, numbers: &[u64; command::NUMBERS]) {
+    let mut text = [0u8; BYTES];
+    let n = Note {
+        minute: short(numbers[0]),
+        direction: short(numbers[1]),
+        first: short(numbers[2]),
+        second: short(numbers[3]),
+        seconds: short(numbers[4]),
+    };
+    let r = station::note(store, n);
+    let k = answer::put_noting(&mut text, 0, r);
+    tell(&text, k);
 }
 
 // Asks the question of a kind of record.
@@ -118,7 +139,7 @@ fn feed(store: &mut Store, name: &[u8]) {
 }
 
 // Asks and logs the answer: how long the log is then.
-fn note(store: &Store, kind: u32, m: u32, file: &mut [u8], log: usize) -> usize {
+fn log_answer(store: &Store, kind: u32, m: u32, file: &mut [u8], log: usize) -> usize {
     let entry = match kind {
         1 => desk::pressure_record(m, station::pressure(store, m)),
         2 => desk::tendency_record(m, station::tendency(store, m)),
@@ -177,8 +198,8 @@ fn answer_line(bytes: &[u8], n: usize, store: &mut Store, file: &mut [u8], log: 
     let line = first(bytes, n);
     let word = line::word(line, 1);
     let command = command::parse(line, &mut numbers);
-    let a = (numbers[0] % 4294967296) as u32;
-    let b = (numbers[1] % 4294967296) as u32;
+    let a = short(numbers[0]);
+    let b = short(numbers[1]);
     match command {
         Command::Nothing => {}
         Command::Wrong(fault) => {
@@ -201,9 +222,10 @@ fn answer_line(bytes: &[u8], n: usize, store: &mut Store, file: &mut [u8], log: 
                 }
                 match verb {
                     Verb::Hear => hear(store, word),
+                    Verb::Note => note(store, &numbers),
                     Verb::FeedFile => feed(store, word),
                     Verb::SaveFile => save(word, first(file, log)),
-                    Verb::Log => return note(store, a, b, file, log),
+                    Verb::Log => return log_answer(store, a, b, file, log),
                     Verb::Pressure => ask(store, 1, a),
                     Verb::Tendency => ask(store, 2, a),
                     Verb::Wind => ask(store, 3, a),

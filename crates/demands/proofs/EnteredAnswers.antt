@@ -11,6 +11,7 @@ use Rattle.settings.specs.Settings.{checked}
 use Rattle.settings.specs.declared.Settings.{Settings}
 use Rattle.wind.specs.declared.TrueWind.the-variants.{Blows}
 use Rattle.vapour.proofs.TablesExist.{the-tables}
+use Rattle.store.specs.History.{Sent}
 use Rattle.station.specs.Source.{heard}
 use Rattle.station.specs.Questions.{Asked, pressure, tendency, wind, humidity, question, Reply, Tells}
 use Rattle.station.specs.Told.{Change}
@@ -56,7 +57,7 @@ record Recorded (q : Asked) (m : ℕ) (f : question q .Figures) (e : Entry) : Ty
   of-figures : RecordOf q m f the-record
   right : (dew : ℕ → ℤ) → DewRule dew → recordRight dew 0 the-record ≡ true
 
-module _ (g : Settings) (good : checked g ≡ given tt) (M : List (List ℕ)) (m : ℕ) where
+module _ (g : Settings) (good : checked g ≡ given tt) (M : List Sent) (m : ℕ) where
   made : (q : Asked) (x : Reply q) → Tells q (heard g M) m x → (f : question q .Figures) → question q .told x ≡ given f → Recorded q m f (entryOf q m x)
   unfolding entryOf
   made pressure (pressed.Refused n) w f e = impossible (cc)

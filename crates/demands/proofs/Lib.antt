@@ -1,6 +1,7 @@
 pub mod RecordedFigures
 pub mod RecordLaws
 pub mod WorkingLaws
+pub mod EnteredWinds
 pub mod MissingLaws
 pub mod EnteredAnswers
 pub mod FileLaws

@@ -10,15 +10,15 @@ use Rattle.number.specs.Refusal.{Numbered, Answer, refused, given}
 use Rattle.number.proofs.Sizes.{and-true, impossible, never}
 use Rattle.quantity.specs.Limits.{threeHours}
 use Rattle.settings.specs.declared.Settings.{Settings}
-use Rattle.cell.specs.Cells.{CHANNELS, absent, recalledAs}
+use Rattle.cell.specs.Cells.{CHANNELS, absent, recalledAs, isPresent}
 use Rattle.cell.specs.declared.Recalled.{Recalled}
 use Rattle.cell.specs.declared.Recalled.the-variants.{Missing, Kept}
 use Rattle.store.specs.Block.{recallOf}
-use Rattle.store.specs.History.{isPresent}
 use Rattle.store.proofs.HistoryLaws.{store-remembers}
 use Rattle.store.proofs.StoreTheorems.{stays-absent-on}
 use Rattle.vapour.specs.Vapour.{Tables}
 use Rattle.vapour.proofs.TablesExist.{the-tables}
+use Rattle.store.specs.History.{Sent}
 use Rattle.station.specs.Source.{Source, heard}
 use Rattle.station.specs.Questions.{Asked, pressure, tendency, wind, humidity, question, Reply, isIn, reads, Answers, Tells}
 use Rattle.station.proofs.AnswerLaws.{passed}
@@ -102,9 +102,9 @@ refused-there q S m x w c j r e = go (question q .told x) (w (the-tables .0) (th
 
 -- ---- it stays missing
 
-module _ (g : Settings) (M N : List (List ℕ)) (c j : ℕ) (p : Passed g M c j) where
+module _ (g : Settings) (M N : List Sent) (c j : ℕ) (p : Passed g M c j) where
   pub missing : heard g (N ++ M) .recall c j ≡ absent
-  missing = stays-absent-on (g .unit) c N M j (p .missing) (p .later)
+  missing = stays-absent-on g c N M j (p .missing) (p .later)
 
   pub answer-missing : (q : Asked) (m : ℕ) → reads q m c j ≡ true → (x : Reply q) → Replies q g (N ++ M) m x → (n : Numbered) × (question q .told x ≡ refused n)
   answer-missing q m r x w = refused-there q (heard g (N ++ M)) m x (replies q g (N ++ M) m x w) c j r missing

@@ -13,9 +13,11 @@ use Rattle.number.specs.Refusal.{Answer, given}
 use Rattle.number.proofs.Sizes.{impossible}
 use Rattle.settings.specs.Settings.{checked}
 use Rattle.settings.specs.declared.Settings.{Settings}
+use Rattle.cell.specs.Cells.{isPresent}
 use Rattle.block.specs.Layout.{WORDS}
 use Rattle.store.specs.Block.{hearing, heardBy, outcome, recallOf}
-use Rattle.store.specs.History.{isPresent, store-of}
+use Rattle.store.specs.Noting.{notedBy}
+use Rattle.store.specs.History.{Sent, bytes, note, store-of}
 use Rattle.store.proofs.OpenLaws.{opens}
 use Rattle.wind.specs.declared.TrueWind.{TrueWind}
 use Rattle.wind.specs.declared.TrueWind.the-variants.{Blows, OutsideLimits}
@@ -49,7 +51,7 @@ pub record NoEmptyProgram (p : Program) : Type 0 where
 memory : List ℕ
 memory = replicate WORDS 0
 
-abbrev after : List (List ℕ) → ℕ → Use
+abbrev after : List Sent → ℕ → Use
 after M m = record { memory = memory; settings = ship; messages = M; minute = m }
 
 given-once : {R A : Type 0} (ask : Use → Answer R A) (u : Use) (x : A) → ask u ≡ given x → Refuses ask → ⊥
@@ -72,12 +74,13 @@ relative h = h .relative
 -- ---- a program that meets the contracts
 
 module _ (p : Program) (meets : Meets p) where
-  block-is : (s : List ℕ) (g : Settings) → checked g ≡ given tt → (M : List (List ℕ)) → blockOf p s g M ≡ store-of g M
+  block-is : (s : List ℕ) (g : Settings) → checked g ≡ given tt → (M : List Sent) → blockOf p s g M ≡ store-of g M
   unfolding blockOf
   block-is s g is [] = meets .opens ([], tt) (lent s, (g, tt)) .1 ∙ sym (opens s g is)
-  block-is s g is (m ∷ M) = meets .hears ([], ([], tt)) (lent (blockOf p s g M), (lent m, tt)) .block ∙ ap (λ (b : List ℕ). heardBy b m) (block-is s g is M)
+  block-is s g is (note n ∷ M) = meets .notes ([], tt) (lent (blockOf p s g M), (n, tt)) .block ∙ ap (λ (b : List ℕ). notedBy b n) (block-is s g is M)
+  block-is s g is (bytes m ∷ M) = meets .hears ([], ([], tt)) (lent (blockOf p s g M), (lent m, tt)) .block ∙ ap (λ (b : List ℕ). heardBy b m) (block-is s g is M)
 
-  module _ (M : List (List ℕ)) (m : ℕ) where
+  module _ (M : List Sent) (m : ℕ) where
     b : List ℕ
     b = blockOf p memory ship M
 
@@ -117,8 +120,8 @@ module _ (p : Program) (meets : Meets p) where
   pressure-280 : answerIn pressure p (after quiet 280) ≡ question pressure .told (pressed (pos 10010))
   pressure-280 = answer-is quiet 280 pressure (pressed (pos 10010)) (watch.pressures .1)
 
-  no-pressure-280 : answerIn pressure p (after (at-100 ∷ others) 280) ≡ question pressure .told (missing 0 280)
-  no-pressure-280 = answer-is (at-100 ∷ others) 280 pressure (missing 0 280) (watch.pressures .2)
+  no-pressure-280 : answerIn pressure p (after (bytes at-100 ∷ others) 280) ≡ question pressure .told (missing 0 280)
+  no-pressure-280 = answer-is (bytes at-100 ∷ others) 280 pressure (missing 0 280) (watch.pressures .2)
 
   rise : answerIn tendency p (after quiet 280) ≡ question tendency .told (changed (pos 10) 179)
   rise = answer-is quiet 280 tendency (changed (pos 10) 179) (watch.tendencies .0)
@@ -144,7 +147,7 @@ module _ (p : Program) (meets : Meets p) where
   -- ---- the five
 
   -- the last message turned a refusal into a pressure
-  one-more : answerIn pressure p (after quiet 280) ≡ answerIn pressure p (after (at-100 ∷ others) 280) → ⊥
+  one-more : answerIn pressure p (after quiet 280) ≡ answerIn pressure p (after (bytes at-100 ∷ others) 280) → ⊥
   one-more e =
       let z : question pressure .told (pressed (pos 10010)) ≡ question pressure .told (missing 0 280) = sym pressure-280 ∙ e ∙ no-pressure-280 in
       impossible (cc)
@@ -157,8 +160,8 @@ module _ (p : Program) (meets : Meets p) where
   pub stores-in-the-block : ((s m : List ℕ) (c t : ℕ) → isPresent (recallOf s c t) ≡ true → p .hears s m .1 ≡ s) → ⊥
   unfolding blockOf
   stores-in-the-block h =
-      let s = blockOf p memory ship (at-100 ∷ others) in
-      let kept : isPresent (recallOf s 0 100) ≡ true = ap (λ (x : List ℕ). isPresent (recallOf x 0 100)) (block-is memory ship good (at-100 ∷ others)) ∙ watch.kept-at-100 in
+      let s = blockOf p memory ship (bytes at-100 ∷ others) in
+      let kept : isPresent (recallOf s 0 100) ≡ true = ap (λ (x : List ℕ). isPresent (recallOf x 0 100)) (block-is memory ship good (bytes at-100 ∷ others)) ∙ watch.kept-at-100 in
       one-more (ap (λ (x : List ℕ). question pressure .told (p .asks pressure x 280)) (h s at-280 0 100 kept))
 
   answers : (q : Asked) → Refuses (answerIn q p) → ⊥
@@ -181,7 +184,7 @@ module _ (p : Program) (meets : Meets p) where
         not-refused = answers;
         not-constant = varies;
         change-not-constant = λ c. apart (c (after quiet 280) (after falling 280) _ _ (ap changeOf rise) (ap changeOf fall));
-        stores-something = λ s. one-more (s (after (at-100 ∷ others) 280) at-280);
+        stores-something = λ s. one-more (s (after (bytes at-100 ∷ others) 280) at-280);
         stores-more-than-the-first = λ s. one-more (s (after others 280) at-100 at-280 refl hearing-given);
         counts-the-absent = one-fewer;
       }

@@ -15,7 +15,8 @@ use Rattle.quantity.specs.declared.MetresPerSecond.{MetresPerSecond}
 use Rattle.quantity.specs.declared.Degrees.{Degrees}
 use Rattle.settings.specs.Settings.{checked}
 use Rattle.settings.specs.declared.Settings.{Settings}
-use Rattle.store.specs.History.{history, remembered, isPresent}
+use Rattle.cell.specs.Cells.{isPresent}
+use Rattle.store.specs.History.{Sent, history, remembered}
 use Rattle.pressure.proofs.PressureTheorems.{sea-level-recorded}
 use Rattle.vapour.specs.Vapour.{water, Tables, AreTables}
 use Rattle.vapour.proofs.SaturationLaws.{near-one}
@@ -42,7 +43,7 @@ minute-right : (m kind : ℕ) → ltb lastMinute m ≡ false → 0 < kind → co
 unfolding minuteRight
 minute-right m kind t k h = both (both (le-leb m lastMinute (ltb-false lastMinute m t)) (lt-ltb 0 (rank m kind) (omega arith))) h
 
-module _ (g : Settings) (good : checked g ≡ given tt) (M : List (List ℕ)) (m : ℕ) where
+module _ (g : Settings) (good : checked g ≡ given tt) (M : List Sent) (m : ℕ) where
   abbrev S : Source
   S = heard g M
 
@@ -98,7 +99,7 @@ module _ (g : Settings) (good : checked g ≡ given tt) (M : List (List ℕ)) (m
       let j = passed _ _ (TendencyRule S m) t (i .1) in
       let rule = ruled (TendencyRule S m) t (j .1) in
       let x = S .recall in
-      let taken = tendency-taken g good dew (readingAt S m) (inCelsius (x 1 m)) (readingAt S (m - threeHours)) (inCelsius (x 1 (m - threeHours))) (λ k. isPresent (remembered (history (g .unit) 0 M) k)) m
+      let taken = tendency-taken g good dew (readingAt S m) (inCelsius (x 1 m)) (readingAt S (m - threeHours)) (inCelsius (x 1 (m - threeHours))) (λ k. isPresent (remembered (history g 0 M) k)) m
       (heard-inside g good M m 0 (lit< tt) (not-false _ (e .0))) (heard-inside g good M m 1 (lit< tt) (not-false _ (f .0)))
       (heard-inside g good M (m - threeHours) 0 (lit< tt) (not-false _ (c .0))) (heard-inside g good M (m - threeHours) 1 (lit< tt) (not-false _ (d .0))) in
       both (minute-right m 2 (a .0) (lit< tt) (le-leb threeHours m (ltb-false m threeHours (b .0))))

@@ -13,16 +13,18 @@ use Rattle.quantity.specs.Limits.{inside, bulb, frost}
 use Rattle.quantity.specs.declared.BarometerUnit.the-variants as unit
 use Rattle.message.specs.Value.{toWhole}
 use Rattle.message.specs.Receive.{received}
-use Rattle.settings.specs.Settings.{checked, every, certificateHolds, othersHold}
+use Rattle.settings.specs.Settings.{checked, every, certificateHolds, noRate, anemometerHolds, othersHold}
 use Rattle.settings.specs.declared.Settings.{Settings}
 use Rattle.settings.specs.declared.Point.{Point}
 use Rattle.window.specs.Window.{absents}
+use Rattle.cell.specs.Cells.{isPresent}
 use Rattle.store.specs.Block.{hearing, outcome, recallOf}
-use Rattle.store.specs.History.{history, remembered, isPresent, store-of}
+use Rattle.store.specs.History.{Sent, bytes, history, remembered, store-of}
 use Rattle.store.proofs.HistoryLaws.{store-remembers}
 use Rattle.sine.specs.Sines.{sines}
 use Rattle.sine.specs.Sine.{fold, size, sine, cosine}
-use Rattle.pressure.specs.Pressure.{scaleFrom, scale, outside, temperature, height, seaLevel, stationPressure, tenthsIn}
+use Rattle.certificate.specs.Line.{valueFrom, noneRound}
+use Rattle.pressure.specs.Pressure.{scale, outside, temperature, height, seaLevel, stationPressure, tenthsIn}
 use Rattle.wind.specs.Wind.{sum, N, M, meets, count, between, turned, compass, from}
 use Rattle.wind.specs.Answer.{withinLimits}
 use Rattle.wind.proofs.WindTest.{isNearest, isWind, tested}
@@ -62,6 +64,7 @@ ship =
       psychrometer = record { 0 = record { v = pos 662 } };
       count = 2;
       points = point 8500 ∷ replicate 15 (point 11000);
+      anemometer = record { count = 0; points = replicate 20 noRate };
     }
 
 -- The message of a channel with a state at a minute with the patterns of two values, and that of state 0.
@@ -73,18 +76,18 @@ sent channel minute first second = stated channel 0 minute first second
 
 -- All but the barometer, at 100 and 280, newest first. Wheelhouse 12.5 °C; 2.5 m/s at 40° and course 260 at 12.5 kn, then 0 at 0° and
 -- course 30 at 10.0 kn; bulbs 20.0 and 15.0 °C, then both 0.0 °C.
-abbrev pub others : List (List ℕ)
+abbrev pub others : List Sent
 others =
-    sent 5 280 0 0
-    ∷ sent 4 280 0 0
-    ∷ sent 3 280 0x4120_0000 0x41f0_0000
-    ∷ sent 2 280 0 0
-    ∷ sent 1 280 0x4148_0000 0
-    ∷ sent 5 100 0x4170_0000 0
-    ∷ sent 4 100 0x41a0_0000 0
-    ∷ sent 3 100 0x4148_0000 0x4382_0000
-    ∷ sent 2 100 0x4020_0000 0x4220_0000
-    ∷ sent 1 100 0x4148_0000 0
+    bytes (sent 5 280 0 0)
+    ∷ bytes (sent 4 280 0 0)
+    ∷ bytes (sent 3 280 0x4120_0000 0x41f0_0000)
+    ∷ bytes (sent 2 280 0 0)
+    ∷ bytes (sent 1 280 0x4148_0000 0)
+    ∷ bytes (sent 5 100 0x4170_0000 0)
+    ∷ bytes (sent 4 100 0x41a0_0000 0)
+    ∷ bytes (sent 3 100 0x4148_0000 0x4382_0000)
+    ∷ bytes (sent 2 100 0x4020_0000 0x4220_0000)
+    ∷ bytes (sent 1 100 0x4148_0000 0)
     ∷ []
 
 -- Then the barometer: 1000.0 hPa at 100; at 280 1001.0, with nothing or another reading between, or 999.0.
@@ -94,17 +97,17 @@ at-100 = sent 0 100 0x447a_0000 0
 abbrev pub at-280 : List ℕ
 at-280 = sent 0 280 0x447a_4000 0
 
-abbrev pub quiet : List (List ℕ)
-quiet = at-280 ∷ at-100 ∷ others
+abbrev pub quiet : List Sent
+quiet = bytes at-280 ∷ bytes at-100 ∷ others
 
-abbrev pub busier : List (List ℕ)
-busier = at-280 ∷ sent 0 200 0x447a_0000 0 ∷ at-100 ∷ others
+abbrev pub busier : List Sent
+busier = bytes at-280 ∷ bytes (sent 0 200 0x447a_0000 0) ∷ bytes at-100 ∷ others
 
-abbrev pub falling : List (List ℕ)
-falling = sent 0 280 0x4479_c000 0 ∷ at-100 ∷ others
+abbrev pub falling : List Sent
+falling = bytes (sent 0 280 0x4479_c000 0) ∷ bytes at-100 ∷ others
 
 pub good : checked ship ≡ given tt
-unfolding checked answer every certificateHolds othersHold
+unfolding checked answer every certificateHolds anemometerHolds othersHold
 good = refl
 
 -- ---- hearing
@@ -113,9 +116,9 @@ pub hears-at-100 : outcome (hearing (store-of ship others) at-100) ≡ given tt
 unfolding answer history received toWhole nearest ofBits
 hears-at-100 = ap outcome (message-by-messages ship good others at-100)
 
-pub kept-at-100 : isPresent (recallOf (store-of ship (at-100 ∷ others)) 0 100) ≡ true
+pub kept-at-100 : isPresent (recallOf (store-of ship (bytes at-100 ∷ others)) 0 100) ≡ true
 unfolding answer history received toWhole nearest ofBits remembered
-kept-at-100 = ap isPresent (store-remembers ship good (at-100 ∷ others) .cells 0 (lit< tt) 100)
+kept-at-100 = ap isPresent (store-remembers ship good (bytes at-100 ∷ others) .cells 0 (lit< tt) 100)
 
 -- ---- pressure
 
@@ -128,8 +131,8 @@ missing channel minute = pressure.Refused (MissingReading channel (record { 0 = 
 pub pressures :
     Tells asked.pressure (heard ship quiet) 100 (pressed (pos 10000))
     × Tells asked.pressure (heard ship quiet) 280 (pressed (pos 10010))
-    × Tells asked.pressure (heard ship (at-100 ∷ others)) 280 (missing 0 280)
-unfolding Answers answer history received toWhole nearest rounded ofBits remembered every scaleFrom scale outside temperature height seaLevel tenthsIn
+    × Tells asked.pressure (heard ship (bytes at-100 ∷ others)) 280 (missing 0 280)
+unfolding Answers answer history received toWhole nearest rounded ofBits remembered every valueFrom noneRound scale outside temperature height seaLevel tenthsIn
 pressures = (λ tables tabled. (refl, refl), λ tables tabled. (refl, refl), λ tables tabled. refl)
 
 -- ---- tendency
@@ -141,7 +144,7 @@ pub tendencies :
     Tells asked.tendency (heard ship quiet) 280 (changed (pos 10) 179)
     × Tells asked.tendency (heard ship busier) 280 (changed (pos 10) 178)
     × Tells asked.tendency (heard ship falling) 280 (changed (negℤ (pos 10)) 179)
-unfolding Answers answer history received toWhole nearest rounded ofBits remembered absents every scaleFrom scale outside temperature height seaLevel tenthsIn
+unfolding Answers answer history received toWhole nearest rounded ofBits remembered absents every valueFrom noneRound scale outside temperature height seaLevel tenthsIn
 tendencies = (
   λ tables tabled. (refl, record { change = refl; absent = refl }),
   λ tables tabled. (refl, record { change = refl; absent = refl }),
@@ -171,7 +174,7 @@ over-ice tables tabled t n i passed = near-one ice t (tables .overIce t) n (tabl
 
 pub humidities :
     Tells asked.humidity (heard ship quiet) 100 (moist 1366 2335 969 59 (pos 116)) × Tells asked.humidity (heard ship quiet) 280 (moist 611 611 0 100 (pos 0))
-unfolding Answers answer history received toWhole nearest rounded ofBits remembered every scaleFrom scale outside stationPressure tenthsIn vapourPressure near-test dew-test
+unfolding Answers answer history received toWhole nearest rounded ofBits remembered every valueFrom noneRound scale outside stationPressure tenthsIn vapourPressure near-test dew-test
 humidities = (
   λ tables tabled. (
     rw (over-water tables tabled (pos 150) 1703 refl tt, over-water tables tabled (pos 200) 2335 refl tt),
@@ -198,13 +201,13 @@ humidities = (
 )
 
 -- Both bulbs at -10.0 °C at 300, with water or with ice on the wick: two messages that differ in the state alone, and two answers.
-abbrev pub frosty : ℕ → List (List ℕ)
-frosty state = stated 5 state 300 0xc120_0000 0 ∷ sent 4 300 0xc120_0000 0 ∷ sent 0 300 0x447a_0000 0 ∷ quiet
+abbrev pub frosty : ℕ → List Sent
+frosty state = bytes (stated 5 state 300 0xc120_0000 0) ∷ bytes (sent 4 300 0xc120_0000 0) ∷ bytes (sent 0 300 0x447a_0000 0) ∷ quiet
 
 pub state-decides :
     Tells asked.humidity (heard ship (frosty 0)) 300 (moist 287 287 0 100 (negℤ (pos 100)))
     × Tells asked.humidity (heard ship (frosty 1)) 300 (moist 260 287 27 91 (negℤ (pos 112)))
-unfolding Answers answer history received toWhole nearest rounded ofBits remembered every scaleFrom scale outside stationPressure tenthsIn vapourPressure near-test dew-test
+unfolding Answers answer history received toWhole nearest rounded ofBits remembered every valueFrom noneRound scale outside stationPressure tenthsIn vapourPressure near-test dew-test
 state-decides = (
   λ tables tabled. (
     rw (over-water tables tabled (negℤ (pos 100)) 287 refl tt),

@@ -1,5 +1,5 @@
 -- What the contracts say of calls, and so of a station at work: it was opened with good settings, and its block is the one that its
--- settings and messages make. Assumes nothing.
+-- settings, messages and entries make. Assumes nothing.
 use mathlib.Core.Path.{_≡_, sym, ap, subst, _∙_}
 use mathlib.Core.List.{List, [], _∷_}
 use Prim.Native.Nat.{ℕ}
@@ -9,8 +9,10 @@ use Rattle.settings.specs.Settings.{checked, checkedAs}
 use Rattle.settings.specs.declared.Settings.{Settings}
 use Rattle.settings.specs.declared.Checked.{Checked}
 use Rattle.settings.specs.declared.Checked.the-variants.{Good}
+use Rattle.anemometer.specs.declared.Note.{Note}
 use Rattle.store.specs.Block.{openedBy, hearing, heardAs, heardBy, outcome}
-use Rattle.store.specs.History.{store-of}
+use Rattle.store.specs.Noting.{noting, notedBy}
+use Rattle.store.specs.History.{Sent, bytes, note, store-of}
 use Rattle.store.specs.declared.Hearing.{Hearing}
 use Rattle.store.proofs.OpenLaws.{opens}
 use Rattle.station.specs.Source.{heard}
@@ -18,7 +20,7 @@ use Rattle.station.specs.Questions.{Asked, pressure, tendency, wind, humidity, 
 use Rattle.heard.specs.Feeds.{SameSettings}
 use Rattle.heard.proofs.StoreLaws.{by-messages}
 use Rattle.heard.proofs.SettingsAlike.{same-store}
-use Rattle.demands.specs.Working.{Opens, Hears, Asks, Working, Replies}
+use Rattle.demands.specs.Working.{Opens, Hears, Notes, Asks, Working, Replies}
 
 -- words lent, wherever they lie
 abbrev pub lent : List ℕ → RefT (List ℕ)
@@ -43,6 +45,15 @@ module _ (b m : List ℕ) (h : Hearing) (b′ : List ℕ) (w : Hears b m h b′)
   hear-block =
       let which = w .5 in
       sym (which .3) ∙ w .4 .block ∙ ap (λ (s : List ℕ). heardBy s (now (w .1 .1 .0))) (which .0) ∙ ap (heardBy b) (which .1)
+
+module _ (b : List ℕ) (n : Note) (h : Hearing) (b′ : List ℕ) (w : Notes b n h b′) where
+  pub note-answer : heardAs h ≡ outcome (noting b n)
+  note-answer =
+      let which = w .5 in
+      ap heardAs (sym (which .2)) ∙ w .4 .answer ∙ ap (λ (s : List ℕ). outcome (noting s (w .1 .1 .0))) (which .0) ∙ ap (λ (x : Note). outcome (noting b x)) (which .1)
+
+  pub note-block : b′ ≡ notedBy b n
+  note-block = let which = w .5 in sym (which .3) ∙ w .4 .block ∙ ap (λ (s : List ℕ). notedBy s (w .1 .1 .0)) (which .0) ∙ ap (notedBy b) (which .1)
 
 -- a promise about a block, a minute and an answer, of equal ones
 carried : {R : Type 0} (P : List ℕ → ℕ → R → Type 0) {b b′ : List ℕ} {m m′ : ℕ} {r r′ : R} → b ≡ b′ → m ≡ m′ → r ≡ r′ → P b m r → P b′ m′ r′
@@ -74,26 +85,28 @@ asks-leaves humidity b m x b′ w = let which = w .5 in sym (which .3) ∙ w .4 
 
 -- ---- a station at work
 
-pub good : (g : Settings) (M : List (List ℕ)) (b : List ℕ) → Working g M b → checked g ≡ given tt
+pub good : (g : Settings) (M : List Sent) (b : List ℕ) → Working g M b → checked g ≡ given tt
 unfolding Working
 good g [] b w = sym (open-answer (w .0) g Good b (w .1))
-good g (m ∷ M) b w = good g M (w .0) (w .1)
+good g (bytes m ∷ M) b w = good g M (w .0) (w .1)
+good g (note n ∷ M) b w = good g M (w .0) (w .1)
 
-pub block : (g : Settings) (M : List (List ℕ)) (b : List ℕ) → Working g M b → b ≡ store-of g M
+pub block : (g : Settings) (M : List Sent) (b : List ℕ) → Working g M b → b ≡ store-of g M
 unfolding Working
 block g [] b w = open-block (w .0) g Good b (w .1) ∙ sym (opens (w .0) g (good g [] b w))
-block g (m ∷ M) b w = hear-block (w .0) m (w .2 .0) b (w .2 .1) ∙ ap (λ (s : List ℕ). heardBy s m) (block g M (w .0) (w .1))
+block g (bytes m ∷ M) b w = hear-block (w .0) m (w .2 .0) b (w .2 .1) ∙ ap (λ (s : List ℕ). heardBy s m) (block g M (w .0) (w .1))
+block g (note n ∷ M) b w = note-block (w .0) n (w .2 .0) b (w .2 .1) ∙ ap (λ (s : List ℕ). notedBy s n) (block g M (w .0) (w .1))
 
--- what it answers is what document 01 says of its settings and messages
-pub replies : (q : Asked) (g : Settings) (M : List (List ℕ)) (m : ℕ) (x : Reply q) → Replies q g M m x → Tells q (heard g M) m x
+-- what it answers is what document 01 says of its settings and of what it heard
+pub replies : (q : Asked) (g : Settings) (M : List Sent) (m : ℕ) (x : Reply q) → Replies q g M m x → Tells q (heard g M) m x
 replies q g M m x w =
     by-messages g (good g M (w .block) (w .working)) M m q x
     (subst (λ (s : List ℕ). TellsOf q s m x) (block g M (w .block) (w .working)) (asks-told q (w .block) m x (w .after) (w .asks)))
 
 -- and where another was opened with the same settings, of these
-pub replies-on : (q : Asked) (g h : Settings) → SameSettings g h → (M N : List (List ℕ)) (m : ℕ) (x y : Reply q) → Replies q g M m x → Replies q h N m y
+pub replies-on : (q : Asked) (g h : Settings) → SameSettings g h → (M N : List Sent) (m : ℕ) (x y : Reply q) → Replies q g M m x → Replies q h N m y
     → Tells q (heard g N) m y
 replies-on q g h same M N m x y v w =
     let is = good g M (v .block) (v .working) in
     by-messages g is N m q y
-    (subst (λ (s : List ℕ). TellsOf q s m y) (block h N (w .block) (w .working) ∙ sym (same-store g h is same N)) (asks-told q (w .block) m y (w .after) (w .asks)))
+    (subst (λ (s : List ℕ). TellsOf q s m y) (block h N (w .block) (w .working) ∙ sym (same-store g h same N)) (asks-told q (w .block) m y (w .after) (w .asks)))

@@ -9,11 +9,14 @@ use Rattle.settings.specs.declared.Settings.{Settings}
 use Rattle.settings.specs.declared.Checked.{Checked}
 use Rattle.settings.specs.declared.Checked.the-variants.{Good}
 use Rattle.cell.specs.declared.Recalled.{Recalled}
+use Rattle.anemometer.specs.declared.Note.{Note}
+use Rattle.store.specs.History.{Sent, bytes, note}
 use Rattle.store.specs.declared.Hearing.{Hearing}
 use Rattle.store.proofs.recall.Reads as to-recall
 use Rattle.station.specs.Questions.{Asked, pressure, tendency, wind, humidity, Reply}
 use Rattle.station.proofs.«open».Reads as to-open
 use Rattle.station.proofs.hear.Reads as to-hear
+use Rattle.station.proofs.note.Reads as to-note
 use Rattle.station.proofs.pressure.Reads as for-pressure
 use Rattle.station.proofs.tendency.Reads as for-tendency
 use Rattle.station.proofs.wind.Reads as for-wind
@@ -47,6 +50,10 @@ Opens b g c b′ = Call to-open.Post (λ κs a r s. (now (a .0) ≡ b) × (a .1 
 abbrev pub Hears : List ℕ → List ℕ → Hearing → List ℕ → Type 0
 Hears b m h b′ = Call to-hear.Post (λ κs a r s. (now (a .0) ≡ b) × (now (a .1 .0) ≡ m) × (r ≡ h) × (s .0 .now ≡ b′))
 
+-- A block b was handed an entry n of the hand anemometer.
+abbrev pub Notes : List ℕ → Note → Hearing → List ℕ → Type 0
+Notes b n h b′ = Call to-note.Post (λ κs a r s. (now (a .0) ≡ b) × (a .1 .0 ≡ n) × (r ≡ h) × (s .0 .now ≡ b′))
+
 -- A block b was asked what it keeps of a channel's minute.
 abbrev pub Recalls : List ℕ → ℕ → ℕ → Recalled → Type 0
 Recalls b c j x = Call to-recall.Post (λ κs a r s. (now (a .0) ≡ b) × (a .1 .0 ≡ c) × (a .1 .1 .0 ≡ j) × (r ≡ x))
@@ -58,13 +65,15 @@ Asks tendency b m x b′ = Call for-tendency.Post (λ κs a r s. (now (a .0) ≡
 Asks wind b m x b′ = Call for-wind.Post (λ κs a r s. (now (a .0) ≡ b) × (a .1 .0 ≡ m) × (r ≡ x) × (now (s .0) ≡ b′))
 Asks humidity b m x b′ = Call for-humidity.Post (λ κs a r s. (now (a .0) ≡ b) × (a .1 .0 ≡ m) × (r ≡ x) × (now (s .0) ≡ b′))
 
--- The block of a store that was opened with g, on whatever memory, and then sent the messages M, newest first, whatever it answered.
-unfoldable pub Working : Settings → List (List ℕ) → List ℕ → Type 0
+-- The block of a store that was opened with g, on whatever memory, and then sent the messages and entries M, newest first, whatever it
+-- answered.
+unfoldable pub Working : Settings → List Sent → List ℕ → Type 0
 Working g [] b = (before : List ℕ) × (Opens before g Good b)
-Working g (m ∷ M) b = (before : List ℕ) × (Working g M before) × ((h : Hearing) × (Hears before m h b))
+Working g (bytes m ∷ M) b = (before : List ℕ) × (Working g M before) × ((h : Hearing) × (Hears before m h b))
+Working g (note n ∷ M) b = (before : List ℕ) × (Working g M before) × ((h : Hearing) × (Notes before n h b))
 
 -- Such a store is asked a question at minute m, and answers x.
-pub record Replies (q : Asked) (g : Settings) (M : List (List ℕ)) (m : ℕ) (x : Reply q) : Type 0 where
+pub record Replies (q : Asked) (g : Settings) (M : List Sent) (m : ℕ) (x : Reply q) : Type 0 where
   pub block : List ℕ
   pub after : List ℕ
   pub working : Working g M block

@@ -16,9 +16,9 @@ use Rattle.wire.specs.declared.MessageRefusal.the-variants.{NotSixteenBytes, No
 use Rattle.message.specs.Receive.{Entry}
 use Rattle.settings.specs.declared.Settings.{Settings}
 use Rattle.store.specs.Block.{hearing, heardBy, heardAs, outcome, Hears}
-use Rattle.store.specs.History.{store-of}
+use Rattle.store.specs.History.{Sent, bytes, store-of}
 use Rattle.store.specs.declared.Hearing.{Hearing}
-use Rattle.store.specs.declared.Hearing.the-variants.{Heard, Refused, Repeated, Late, NoStore}
+use Rattle.store.specs.declared.Hearing.the-variants.{Heard, Refused, Repeated, Late, OutsideDial, NoCourse, OutsideAnemometer, NoStore}
 use Rattle.desk.specs.Counting.{cut, messages, heardAll, oneMore, countedAll}
 
 -- ---- cutting
@@ -87,6 +87,9 @@ number-small (Refused r) = go r
     go OutsideLimits = lit< tt
 number-small Repeated = lit< tt
 number-small (Late minutes) = lit< tt
+number-small OutsideDial = lit< tt
+number-small (NoCourse m) = lit< tt
+number-small OutsideAnemometer = lit< tt
 number-small NoStore = lit< tt
 
 same-number : (a : Answer Numbered Entry) → numberedIn (outcome a) ≡ numberedIn a
@@ -160,13 +163,13 @@ counts-added n s (m ∷ M) counts inside room =
 
 -- ---- a station
 
--- messages heard behind those that were heard before, which stand newest first
-abbrev pub behind : List (List ℕ) → List (List ℕ) → List (List ℕ)
+-- messages heard behind what was heard before, which stands newest first
+abbrev pub behind : List (List ℕ) → List Sent → List Sent
 behind [] M = M
-behind (m ∷ N) M = behind N (m ∷ M)
+behind (m ∷ N) M = behind N (bytes m ∷ M)
 
 -- THE BLOCK OF A STATION THAT HEARD A WHOLE TEXT IS THAT OF ITS MESSAGES.
-pub heard-by-station : (g : Settings) (N M : List (List ℕ)) → heardAll (store-of g M) N ≡ store-of g (behind N M)
+pub heard-by-station : (g : Settings) (N : List (List ℕ)) (M : List Sent) → heardAll (store-of g M) N ≡ store-of g (behind N M)
 unfolding heardAll
 heard-by-station g [] M = refl
-heard-by-station g (m ∷ N) M = heard-by-station g N (m ∷ M)
+heard-by-station g (m ∷ N) M = heard-by-station g N (bytes m ∷ M)

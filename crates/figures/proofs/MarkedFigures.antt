@@ -6,7 +6,8 @@ use Rattle.number.specs.Refusal.{answer}
 use Rattle.settings.specs.Settings.{every}
 use Rattle.sine.specs.Sines.{sines}
 use Rattle.sine.specs.Sine.{fold, size, sine, cosine}
-use Rattle.pressure.specs.Pressure.{inUnit, tenthsIn, scaleFrom, scale, outside, temperature, height, seaLevel, seaLevelAnswer}
+use Rattle.certificate.specs.Line.{valueFrom, noneRound}
+use Rattle.pressure.specs.Pressure.{inUnit, tenthsIn, scale, outside, temperature, height, seaLevel, seaLevelAnswer}
 use Rattle.wind.specs.Wind.{sum, N, M, meets, count, between, turned, compass, from}
 use Rattle.wind.specs.Answer.{withinLimits}
 use Rattle.wind.proofs.WindTest.{isNearest, isWind, tested}
@@ -17,7 +18,7 @@ use Rattle.humidity.proofs.ByTests.{entries-test, by-tests}
 use Rattle.figures.specs.Marked.{marked, AllSay}
 
 pub marked-figures : AllSay marked
-unfolding marked answer every inUnit tenthsIn scaleFrom scale outside temperature height seaLevel seaLevelAnswer nearest rounded sines fold size sine cosine sum N M meets count between turned compass from withinLimits isNearest isWind near-test dew-test entries-test vapourPressure
+unfolding marked answer every inUnit tenthsIn valueFrom noneRound scale outside temperature height seaLevel seaLevelAnswer nearest rounded sines fold size sine cosine sum N M meets count between turned compass from withinLimits isNearest isWind near-test dew-test entries-test vapourPressure
 marked-figures = (
   refl,
   (

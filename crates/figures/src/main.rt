@@ -16,10 +16,13 @@ use quantity::Knots;
 use quantity::MetresPerSecond;
 use quantity::Millimetres;
 use quantity::WheelhouseTemperature;
+use settings::Anemometer;
 use settings::Correction;
 use settings::Height;
 use settings::Point;
 use settings::PsychrometerCoefficient;
+use settings::Rate;
+use settings::RatePoint;
 use settings::SeaLevelDifference;
 use settings::Settings;
 use settings::TemperatureCoefficient;
@@ -51,6 +54,17 @@ fn point(reading: i32, correction: i32) -> Point {
     }
 }
 
+fn no_anemometer() -> Anemometer {
+    let none = RatePoint {
+        rate: Rate(Kept { v: 0 }),
+        speed: Kept { v: 0 },
+    };
+    Anemometer {
+        count: 0,
+        points: [none; 20],
+    }
+}
+
 // Certificate 730.0:-0.4, 750.0:-0.8 mm Hg, coefficient 24, H 10.1.
 fn settings(difference: i32) -> Settings {
     let first = point(7300, -4);
@@ -64,6 +78,7 @@ fn settings(difference: i32) -> Settings {
         psychrometer: PsychrometerCoefficient(Kept { v: 662 }),
         count: 2,
         points,
+        anemometer: no_anemometer(),
     }
 }
 
@@ -187,6 +202,7 @@ fn watch_with_a_gap() {
             psychrometer: PsychrometerCoefficient(Kept { v: 662 }),
             count: 2,
             points,
+            anemometer: no_anemometer(),
         },
     );
     hear_both(&mut store, 100, 0);

@@ -11,55 +11,55 @@ use Rattle.number.specs.Round.{nearest}
 use Rattle.number.specs.Refusal.{Numbered, Answer, refused, given, answer}
 use Rattle.number.proofs.Sizes.{impossible}
 use Rattle.quantity.specs.Limits.{minutesBetween}
-use Rattle.quantity.specs.declared.BarometerUnit.{BarometerUnit}
 use Rattle.quantity.specs.declared.BarometerUnit.the-variants.{Hectopascals}
 use Rattle.message.specs.Value.{toWhole}
 use Rattle.message.specs.Receive.{hPa, °C, none, Entry, received}
-use Rattle.settings.specs.Settings.{checked}
-use Rattle.settings.specs.declared.Settings.{Settings}
+use Rattle.settings.specs.Settings.{every, certificateHolds, anemometerHolds, othersHold, checked}
 use Rattle.window.specs.Window.{absents}
-use Rattle.cell.specs.Cells.{CHANNELS}
-use Rattle.block.specs.Words.{opened}
+use Rattle.cell.specs.Cells.{CHANNELS, isPresent}
 use Rattle.store.specs.Block.{openedBy, isGiven, heardAs, outcome, Hears, recallOf, absentOf}
 use Rattle.cell.specs.Cells.{Recall}
-use Rattle.store.specs.History.{nextOf, history, remembered, isPresent, Remembers}
+use Rattle.store.specs.History.{Sent, bytes, nextOf, history, remembered, Remembers}
 use Rattle.store.specs.declared.Hearing.{Hearing}
 use Rattle.store.proofs.NewestLaws.{later}
 use Rattle.store.proofs.OpenLaws.{opens}
 use Rattle.store.proofs.HistoryLaws.{opened-remembers, heard-remembers, by-newest}
 use Rattle.store.proofs.StoreTheorems.{absent-count}
-use Rattle.gap.specs.Watch.{sent, to-100, to-280, to-400, pressureIn, temperatureIn}
+use Rattle.gap.specs.Watch.{ship, sent, to-100, to-280, to-400, pressureIn, temperatureIn}
 
 -- ---- any messages
 
--- An opened station in hPa remembers nothing.
-pub opened-well : (s : List ℕ) (g : Settings) → checked g ≡ given tt → g .unit ≡ Hectopascals → Remembers (openedBy s g) Hectopascals []
-opened-well s g good u =
-    subst (λ (x : List ℕ). Remembers x Hectopascals []) (opens s g good)
-    (subst (λ (v : BarometerUnit). Remembers (opened g) v []) u (opened-remembers g good))
+-- Each setting lies within its limits, by computation.
+pub good : checked ship ≡ given tt
+unfolding every certificateHolds anemometerHolds othersHold checked answer
+good = refl
+
+-- The opened station remembers nothing.
+pub opened-well : (s : List ℕ) → Remembers (openedBy s ship) ship []
+opened-well s = subst (λ (x : List ℕ). Remembers x ship []) (opens s ship good) (opened-remembers ship)
 
 -- After the messages M: "A message must be later than its channel's newest."
-abbrev isLaterThan : List (List ℕ) → Answer ℕ Entry → Bool
+abbrev isLaterThan : List Sent → Answer ℕ Entry → Bool
 isLaterThan M (refused n) = false
-isLaterThan M (given e) = leb (nextOf (history Hectopascals (e .channel) M)) (e .minute)
+isLaterThan M (given e) = leb (nextOf (history ship (e .channel) M)) (e .minute)
 
-abbrev pub isNew : List (List ℕ) → List ℕ → Bool
+abbrev pub isNew : List Sent → List ℕ → Bool
 isNew M m = isLaterThan M (received Hectopascals m)
 
-module _ {s s′ m : List ℕ} {h : Hearing} {M : List (List ℕ)} (heard : Hears s s′ m h) (r : Remembers s Hectopascals M) where
+module _ {s s′ m : List ℕ} {h : Hearing} {M : List Sent} (heard : Hears s s′ m h) (r : Remembers s ship M) where
   pub is-heard : isNew M m ≡ true → isGiven (heardAs h) ≡ true
   is-heard new = go (received Hectopascals m) refl new
     where
       go : (a : Answer ℕ Entry) → received Hectopascals m ≡ a → isLaterThan M a ≡ true → isGiven (heardAs h) ≡ true
       go (refused n) g t = impossible (cc)
       go (given e) g t =
-          let n = nextOf (history Hectopascals (e .channel) M) in
+          let n = nextOf (history ship (e .channel) M) in
           ap isGiven (heard .answer)
           ∙ ap (λ (a : Answer Numbered Entry). isGiven (outcome a))
-          (by-newest s Hectopascals M m r e g ∙ later n (e .minute) e (leb-true n (e .minute) t))
+          (by-newest ship s M m r e g ∙ later n (e .minute) e (leb-true n (e .minute) t))
 
-  pub goes-on : Remembers s′ Hectopascals (m ∷ M)
-  goes-on = subst (λ (x : List ℕ). Remembers x Hectopascals (m ∷ M)) (sym (heard .block)) (heard-remembers s Hectopascals M m r)
+  pub goes-on : Remembers s′ ship (bytes m ∷ M)
+  goes-on = subst (λ (x : List ℕ). Remembers x ship (bytes m ∷ M)) (sym (heard .block)) (heard-remembers ship s M m r)
 
 -- ---- this watch
 
@@ -68,7 +68,7 @@ pub barometer-new-100 : isNew [] (sent 0 100 0x447d_4ccd) ≡ true
 unfolding history received answer toWhole nearest ofBits
 barometer-new-100 = refl
 
-pub thermometer-new-100 : isNew (sent 0 100 0x447d_4ccd ∷ []) (sent 1 100 0x4148_0000) ≡ true
+pub thermometer-new-100 : isNew (bytes (sent 0 100 0x447d_4ccd) ∷ []) (sent 1 100 0x4148_0000) ≡ true
 unfolding history received answer toWhole nearest ofBits
 thermometer-new-100 = refl
 
@@ -76,7 +76,7 @@ pub barometer-new-280 : isNew to-100 (sent 0 280 0x447c_6ccd) ≡ true
 unfolding history received answer toWhole nearest ofBits
 barometer-new-280 = refl
 
-pub thermometer-new-280 : isNew (sent 0 280 0x447c_6ccd ∷ to-100) (sent 1 280 0x4150_0000) ≡ true
+pub thermometer-new-280 : isNew (bytes (sent 0 280 0x447c_6ccd) ∷ to-100) (sent 1 280 0x4150_0000) ≡ true
 unfolding history received answer toWhole nearest ofBits
 thermometer-new-280 = refl
 
@@ -84,7 +84,7 @@ pub barometer-new-400 : isNew to-280 (sent 0 400 0x447c_199a) ≡ true
 unfolding history received answer toWhole nearest ofBits
 barometer-new-400 = refl
 
-pub thermometer-new-400 : isNew (sent 0 400 0x447c_199a ∷ to-280) (sent 1 400 0x4158_0000) ≡ true
+pub thermometer-new-400 : isNew (bytes (sent 0 400 0x447c_199a) ∷ to-280) (sent 1 400 0x4158_0000) ≡ true
 unfolding history received answer toWhole nearest ofBits
 thermometer-new-400 = refl
 
@@ -101,33 +101,33 @@ pressures-280 = pressure 280 10097 ∷ pressure 100 10132 ∷ []
 abbrev temperatures-280 : List Entry
 temperatures-280 = temperature 280 130 ∷ temperature 100 125 ∷ []
 
-pressures-to-280 : history Hectopascals 0 to-280 ≡ pressures-280
+pressures-to-280 : history ship 0 to-280 ≡ pressures-280
 unfolding history received answer toWhole nearest ofBits
 pressures-to-280 = refl
 
-temperatures-to-280 : history Hectopascals 1 to-280 ≡ temperatures-280
+temperatures-to-280 : history ship 1 to-280 ≡ temperatures-280
 unfolding history received answer toWhole nearest ofBits
 temperatures-to-280 = refl
 
-pressures-to-400 : history Hectopascals 0 to-400 ≡ pressure 400 10084 ∷ pressures-280
+pressures-to-400 : history ship 0 to-400 ≡ pressure 400 10084 ∷ pressures-280
 unfolding history received answer toWhole nearest ofBits
 pressures-to-400 = refl
 
-temperatures-to-400 : history Hectopascals 1 to-400 ≡ temperature 400 135 ∷ temperatures-280
+temperatures-to-400 : history ship 1 to-400 ≡ temperature 400 135 ∷ temperatures-280
 unfolding history received answer toWhole nearest ofBits
 temperatures-to-400 = refl
 
 -- A minute and a count of absent minutes, of a channel whose history is known.
-module _ {s : List ℕ} {M : List (List ℕ)} {H : List Entry} (r : Remembers s Hectopascals M)
-    (c : ℕ) (l : c < CHANNELS) (e : history Hectopascals c M ≡ H) where
+module _ {s : List ℕ} {M : List Sent} {H : List Entry} (r : Remembers s ship M)
+    (c : ℕ) (l : c < CHANNELS) (e : history ship c M ≡ H) where
   recalls : (j : ℕ) → recallOf s c j ≡ remembered H j
   recalls j = r .cells c l j ∙ ap (λ (K : List Entry). remembered K j) e
 
   counts : (t : ℕ) → absentOf s c t ≡ absents (λ j. isPresent (remembered H j)) t minutesBetween
-  counts t = absent-count s Hectopascals M c t r l ∙ ap (λ (K : List Entry). absents (λ j. isPresent (remembered K j)) t minutesBetween) e
+  counts t = absent-count s ship M c t r l ∙ ap (λ (K : List Entry). absents (λ j. isPresent (remembered K j)) t minutesBetween) e
 
 -- "Barometer and thermometer at 100 and 280 only: tendency at 280, 179 absent."
-module _ {s : List ℕ} (r : Remembers s Hectopascals to-280) where
+module _ {s : List ℕ} (r : Remembers s ship to-280) where
   pub pressures-absent-280 : absentOf s 0 280 ≡ 179
   unfolding remembered absents
   pressures-absent-280 = counts r 0 (lit< tt) pressures-to-280 280
@@ -156,7 +156,7 @@ module _ {s : List ℕ} (r : Remembers s Hectopascals to-280) where
 abbrev isMissing : Recall → Bool
 isMissing x = not (isPresent x)
 
-module _ {s : List ℕ} (r : Remembers s Hectopascals to-400) where
+module _ {s : List ℕ} (r : Remembers s ship to-400) where
   recalls-0 : (j : ℕ) → recallOf s 0 j ≡ remembered (pressure 400 10084 ∷ pressures-280) j
   recalls-0 = recalls r 0 (lit< tt) pressures-to-400
 

@@ -3,23 +3,24 @@ ghost use mathlib.Core.Path.{_≡_};
 ghost use mathlib.Core.Bool.{not};
 ghost use mathlib.Core.List.{[]};
 ghost use Prim.Native.Nat.{ℕ};
-ghost use Rattle.number.specs.Refusal.{given};
-ghost use Rattle.quantity.specs.declared.BarometerUnit.the-variants.{Hectopascals};
-ghost use Rattle.settings.specs.Settings.{checked, checkedAs};
+ghost use Rattle.settings.specs.Settings.{checkedAs};
 ghost use Rattle.store.specs.Block.{isGiven, heardAs, recallOf};
-ghost use Rattle.cell.specs.Cells.{recalledAs};
-ghost use Rattle.store.specs.History.{isPresent, Remembers};
-ghost use Rattle.gap.specs.Watch.{to-100, to-280, to-400, pressureIn, temperatureIn};
+ghost use Rattle.cell.specs.Cells.{recalledAs, isPresent};
+ghost use Rattle.store.specs.History.{Remembers};
+ghost use Rattle.gap.specs.Watch.{ship, to-100, to-280, to-400, pressureIn, temperatureIn};
 use block::Store;
 use cell::Recalled;
 use message::Reading;
 use number::Kept;
 use quantity::BarometerUnit;
+use settings::Anemometer;
 use settings::Checked;
 use settings::Correction;
 use settings::Height;
 use settings::Point;
 use settings::PsychrometerCoefficient;
+use settings::Rate;
+use settings::RatePoint;
 use settings::SeaLevelDifference;
 use settings::Settings;
 use settings::TemperatureCoefficient;
@@ -33,6 +34,7 @@ fn is_good(c: Checked) -> bool
         Checked::Good => true,
         Checked::OutsideLimits => false,
         Checked::CertificateBroken => false,
+        Checked::AnemometerBroken => false,
     }
 }
 
@@ -45,6 +47,9 @@ fn is_heard(h: Hearing) -> bool
         Hearing::Refused(_) => false,
         Hearing::Repeated => false,
         Hearing::Late(_) => false,
+        Hearing::OutsideDial => false,
+        Hearing::NoCourse(_) => false,
+        Hearing::OutsideAnemometer => false,
         Hearing::NoStore => false,
     }
 }
@@ -122,9 +127,9 @@ fn is_missing_at(store: &Store, channel: u32, minute: u32) -> bool
     is_missing(store::recall(store, channel, minute))
 }
 
-// The settings of a station at the sea's height, with a barometer in hPa that needs no correction.
+// The settings of a station at the sea's height, with a barometer in hPa that needs no correction, and no anemometer.
 fn settings() -> Settings
-    ensures { λ r. ⌜ (checked r ≡ given tt) × (r .unit ≡ Hectopascals) ⌝ }
+    ensures { λ r. ⌜ r ≡ ship ⌝ }
 {
     let low = Point {
         reading: Kept { v: 8500 },
@@ -139,6 +144,10 @@ fn settings() -> Settings
         correction: Correction(Kept { v: 0 }),
     };
     let mut points = [nowhere; settings::POINTS];
+    let none = RatePoint {
+        rate: Rate(Kept { v: 0 }),
+        speed: Kept { v: 0 },
+    };
     points[0] = low;
     points[1] = high;
     Settings {
@@ -149,20 +158,24 @@ fn settings() -> Settings
         psychrometer: PsychrometerCoefficient(Kept { v: 662 }),
         count: 2,
         points: points,
+        anemometer: Anemometer {
+            count: 0,
+            points: [none; settings::RATES],
+        },
     }
 }
 
 // Opens the store: nothing is heard yet.
 fn open(store: &mut Store)
-    ensures { λ r. ⌜ Remembers (now (store .exit)) Hectopascals [] ⌝ }
+    ensures { λ r. ⌜ Remembers (now (store .exit)) ship [] ⌝ }
 {
     check::expect(is_good(store::open(store, settings())));
 }
 
 // Hears both instruments at minute 100: 1013.2 hPa and 12.5 °C.
 fn hear_at_100(store: &mut Store)
-    requires { ⌜ Remembers (now store) Hectopascals [] ⌝ }
-    ensures { λ r. ⌜ Remembers (now (store .exit)) Hectopascals to-100 ⌝ }
+    requires { ⌜ Remembers (now store) ship [] ⌝ }
+    ensures { λ r. ⌜ Remembers (now (store .exit)) ship to-100 ⌝ }
 {
     let barometer: [u8; 16] = [0, 0, 0, 0, 100, 0, 0, 0, 205, 76, 125, 68, 0, 0, 0, 0];
     let thermometer: [u8; 16] = [1, 0, 0, 0, 100, 0, 0, 0, 0, 0, 72, 65, 0, 0, 0, 0];
@@ -172,8 +185,8 @@ fn hear_at_100(store: &mut Store)
 
 // And at minute 280: 1009.7 hPa and 13.0 °C.
 fn hear_at_280(store: &mut Store)
-    requires { ⌜ Remembers (now store) Hectopascals to-100 ⌝ }
-    ensures { λ r. ⌜ Remembers (now (store .exit)) Hectopascals to-280 ⌝ }
+    requires { ⌜ Remembers (now store) ship to-100 ⌝ }
+    ensures { λ r. ⌜ Remembers (now (store .exit)) ship to-280 ⌝ }
 {
     let barometer: [u8; 16] = [0, 0, 0, 0, 24, 1, 0, 0, 205, 108, 124, 68, 0, 0, 0, 0];
     let thermometer: [u8; 16] = [1, 0, 0, 0, 24, 1, 0, 0, 0, 0, 80, 65, 0, 0, 0, 0];
@@ -183,8 +196,8 @@ fn hear_at_280(store: &mut Store)
 
 // And at minute 400: 1008.4 hPa and 13.5 °C.
 fn hear_at_400(store: &mut Store)
-    requires { ⌜ Remembers (now store) Hectopascals to-280 ⌝ }
-    ensures { λ r. ⌜ Remembers (now (store .exit)) Hectopascals to-400 ⌝ }
+    requires { ⌜ Remembers (now store) ship to-280 ⌝ }
+    ensures { λ r. ⌜ Remembers (now (store .exit)) ship to-400 ⌝ }
 {
     let barometer: [u8; 16] = [0, 0, 0, 0, 144, 1, 0, 0, 154, 25, 124, 68, 0, 0, 0, 0];
     let thermometer: [u8; 16] = [1, 0, 0, 0, 144, 1, 0, 0, 0, 0, 88, 65, 0, 0, 0, 0];
@@ -194,7 +207,7 @@ fn hear_at_400(store: &mut Store)
 
 // At minute 280 both minutes heard are kept, and all 179 between them are absent.
 fn ask_at_280(store: &Store)
-    requires { ⌜ Remembers (now store) Hectopascals to-280 ⌝ }
+    requires { ⌜ Remembers (now store) ship to-280 ⌝ }
 {
     check::expect(store::missing_minutes(store, 0, 280) == 179);
     check::expect(store::missing_minutes(store, 1, 280) == 179);
@@ -206,7 +219,7 @@ fn ask_at_280(store: &Store)
 
 // At minute 400 minute 220 is absent, minute 280 is still kept, and minute 100 is gone.
 fn ask_at_400(store: &Store)
-    requires { ⌜ Remembers (now store) Hectopascals to-400 ⌝ }
+    requires { ⌜ Remembers (now store) ship to-400 ⌝ }
 {
     check::expect(is_missing_at(store, 0, 220));
     check::expect(is_missing_at(store, 1, 220));

@@ -1,5 +1,5 @@
--- Demand 1 for questions and messages: refusal n is given exactly when its reason holds and no test before it does, with reasons by
--- the messages heard. The one law of refusals at each list. Assumes nothing.
+-- Demand 1 for questions, messages and entries: refusal n is given exactly when its reason holds and no test before it does, with
+-- reasons by what was heard. The one law of refusals at each list. Assumes nothing.
 use mathlib.Core.Path.{_≡_, refl, sym, ap, _∙_}
 use mathlib.Core.List.{List}
 use mathlib.Core.Logic.{_↔_}
@@ -17,11 +17,14 @@ use Rattle.quantity.specs.declared.BarometerUnit.{BarometerUnit}
 use Rattle.settings.specs.Settings.{checked}
 use Rattle.settings.specs.declared.Settings.{Settings}
 use Rattle.cell.specs.Cells.{CHANNELS}
+use Rattle.anemometer.specs.declared.Note.{Note}
 use Rattle.store.specs.Block.{hearing}
-use Rattle.store.specs.History.{store-of}
+use Rattle.store.specs.Noting.{noting}
+use Rattle.store.specs.History.{Sent, entered, store-of}
+use Rattle.store.proofs.EntryLaws.{by-history}
 use Rattle.store.proofs.HistoryLaws.{store-remembers, open-hears}
 use Rattle.station.specs.Questions.{Answers}
-use Rattle.heard.specs.Feeds.{wouldKeep, messageTests}
+use Rattle.heard.specs.Feeds.{wouldKeep, messageTests, wouldNote, testsOfEntry}
 
 -- ---- questions
 
@@ -66,7 +69,7 @@ entry-minute u t (ShipMotion x) = refl
 entry-minute u t (DryBulb x) = refl
 entry-minute u t (WetBulb s x) = refl
 
-module _ (g : Settings) (good : checked g ≡ given tt) (M : List (List ℕ)) (m : List ℕ) where
+module _ (g : Settings) (good : checked g ≡ given tt) (M : List Sent) (m : List ℕ) where
   -- The store tests a message by what was heard before.
   pub message-by-messages : hearing (store-of g M) m ≡ answer (messageTests g M m) (wouldKeep g m)
   message-by-messages =
@@ -79,3 +82,16 @@ module _ (g : Settings) (good : checked g ≡ given tt) (M : List (List ℕ)) (m
   message-refused-exactly n =
       let law = refused-exactly (wouldKeep g m) (messageTests g M m) n in
       (λ e. law .0 (sym message-by-messages ∙ e), λ w. message-by-messages ∙ law .1 w)
+
+-- ---- entries
+
+module _ (g : Settings) (good : checked g ≡ given tt) (M : List Sent) (n : Note) where
+  -- The store tests an entry by what was heard before.
+  pub entry-by-messages : noting (store-of g M) n ≡ answer (testsOfEntry g M n) (wouldNote g M n)
+  unfolding entered
+  entry-by-messages = by-history g good (store-of g M) M n (store-remembers g good M)
+
+  pub entry-refused-exactly : (x : Numbered) → (noting (store-of g M) n ≡ refused x) ↔ First (testsOfEntry g M n) x
+  entry-refused-exactly x =
+      let law = refused-exactly (wouldNote g M n) (testsOfEntry g M n) x in
+      (λ e. law .0 (sym entry-by-messages ∙ e), λ w. entry-by-messages ∙ law .1 w)

@@ -17,11 +17,11 @@ use Rattle.settings.specs.Settings.{checked, othersHold, nowhere}
 use Rattle.settings.specs.Settings as settings
 use Rattle.settings.specs.declared.Settings.{Settings}
 use Rattle.block.specs.Layout.{SETTINGS, POINTS}
-use Rattle.cell.specs.Cells.{CHANNELS, unbiased, limitsOf, Recall}
+use Rattle.cell.specs.Cells.{CHANNELS, unbiased, limitsOf, Recall, isPresent}
 use Rattle.block.specs.Words.{opened, unitOf, settingOf, pointIn, pointOf}
-use Rattle.store.specs.History.{isPresent, store-of}
+use Rattle.store.specs.History.{Sent, store-of}
 use Rattle.store.proofs.HistoryLaws.{store-remembers, store-is-open}
-use Rattle.store.proofs.StoreTheorems.{settings-stay-heard, absent-count}
+use Rattle.store.proofs.StoreTheorems.{absent-count}
 use Rattle.block.proofs.SettingsLaws.{settings-back, others}
 use Rattle.pressure.specs.Pressure.{Barometer, barometerIn, barometerOf}
 use Rattle.pressure.proofs.PressureTheorems.{Alike, opened-alike, station-recorded}
@@ -99,13 +99,12 @@ alike-on {a} {b} {c} p q =
     }
 
 module _ (g : Settings) (good : checked g ≡ given tt) where
-  settings-kept : (M : List (List ℕ)) → take SETTINGS (store-of g M) ≡ take SETTINGS (opened g)
-  settings-kept [] = refl
-  settings-kept (m ∷ M) = settings-stay-heard (store-of g M) m (store-remembers g good M .long) ∙ settings-kept M
+  settings-kept : (M : List Sent) → take SETTINGS (store-of g M) ≡ take SETTINGS (opened g)
+  settings-kept M = store-remembers g good M .settings
 
   -- ---- what the block holds is what was heard
 
-  module _ (M : List (List ℕ)) where
+  module _ (M : List Sent) where
     barometer-is : Alike (barometerOf (store-of g M)) (barometerIn g)
     barometer-is = alike-on (barometers (store-of g M) (opened g) (settings-kept M)) (opened-alike g good)
 
@@ -116,7 +115,7 @@ module _ (g : Settings) (good : checked g ≡ given tt) where
     kept-is m c l = store-remembers g good M .cells c l m
 
     missing-is : (m : ℕ) → held (store-of g M) .missing m ≡ heard g M .missing m
-    missing-is m = absent-count (store-of g M) (g .unit) M 0 m (store-remembers g good M) (lit< tt)
+    missing-is m = absent-count (store-of g M) g M 0 m (store-remembers g good M) (lit< tt)
 
     -- what was heard lies within its channel's limits, in its channel's unit
     pub heard-inside : (m c : ℕ) → c < CHANNELS → isPresent (heard g M .recall c m) ≡ true

@@ -16,6 +16,7 @@ use Rattle.settings.specs.declared.Settings.{Settings}
 use Rattle.vapour.specs.Vapour.{Tables, AreTables}
 use Rattle.humidity.specs.Humidity.{vapourPressure, wetAboveDry, tooWarmForIce, unknownOutside, aboveSaturation, tooDry}
 use Rattle.humidity.proofs.VapourPressureLaws.{water-under}
+use Rattle.store.specs.History.{Sent}
 use Rattle.station.specs.Source.{Source, heard}
 use Rattle.station.specs.Questions.{Answers, Tells, tooLate, missingAt, outsideAt, dryAt, wetAt, stateAt, stationAt, humidityTests, HumidityRule}
 use Rattle.station.specs.Questions as asked
@@ -25,7 +26,7 @@ use Rattle.station.specs.declared.HumidityAnswer.{HumidityAnswer}
 use Rattle.station.proofs.AnswerLaws.{carry, leave-out, lets-pass}
 use Rattle.heard.proofs.StoreLaws.{heard-inside, never-foreign}
 
-module _ (g : Settings) (good : checked g ≡ given tt) (M : List (List ℕ)) (m : ℕ) (wick : stateAt (heard g M) m ≡ Water) (tables : Tables) (tabled : AreTables tables) where
+module _ (g : Settings) (good : checked g ≡ given tt) (M : List Sent) (m : ℕ) (wick : stateAt (heard g M) m ≡ Water) (tables : Tables) (tabled : AreTables tables) where
   abbrev S : Source
   S = heard g M
 

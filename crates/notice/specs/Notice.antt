@@ -14,8 +14,8 @@ use Rattle.command.specs.declared.Place.{Place}
 
 abbrev pub helpText : List ℕ
 helpText =
-    (letters "open UNIT H DIFFERENCE COEFFICIENT A READING:CORRECTION ..." ++ end)
-    ++ ((letters "hear HEX" ++ end)
+    (letters "open UNIT H DIFFERENCE COEFFICIENT A READING:CORRECTION ... anemometer RATE:SPEED ..." ++ end)
+    ++ ((letters "hear HEX, note M DIRECTION FIRST SECOND SECONDS" ++ end)
     ++ ((letters "pressure M, tendency M, wind M, humidity M" ++ end)
     ++ ((letters "read HEX" ++ end)
     ++ ((letters "write ROOM P:M:p T:M:change:absent W:M:speed:direction H:M:e:saturation:deficit:relative:dew ..." ++ end)

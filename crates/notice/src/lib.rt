@@ -16,9 +16,9 @@ pub fn put_help(text: &mut [u8], at: usize) -> usize
     let a = answer::put_line(
         text,
         at,
-        b"open UNIT H DIFFERENCE COEFFICIENT A READING:CORRECTION ...",
+        b"open UNIT H DIFFERENCE COEFFICIENT A READING:CORRECTION ... anemometer RATE:SPEED ...",
     );
-    let b = answer::put_line(text, a, b"hear HEX");
+    let b = answer::put_line(text, a, b"hear HEX, note M DIRECTION FIRST SECOND SECONDS");
     let c = answer::put_line(text, b, b"pressure M, tendency M, wind M, humidity M");
     let d = answer::put_line(text, c, b"read HEX");
     let e = answer::put_line(

@@ -6,15 +6,15 @@ use Rattle.number.specs.Refusal.{refused, given, answer}
 use Rattle.number.specs.declared.Number.{Number}
 use Rattle.quantity.specs.Limits.{inside, wheelhouse}
 use Rattle.quantity.specs.declared.BarometerUnit.{BarometerUnit}
+use Rattle.certificate.specs.declared.Valued.{Valued}
+use Rattle.certificate.specs.declared.Valued.the-variants.{Value, NoneThere}
 use Rattle.pressure.specs.Pressure.{Barometer, readingAs, inUnit, tenthsIn, scale, outside, corrected, toHectopascals, roundedOnce, seaLevel, stationPressure, scaled, scaledAs, seaLevelAnswer, stationAnswer}
 use Rattle.pressure.specs.declared.BarometerReading.{BarometerReading}
-use Rattle.pressure.specs.declared.ScaleCorrection.{ScaleCorrection}
-use Rattle.pressure.specs.declared.ScaleCorrection.the-variants.{Tenths, NoneThere}
 
 module _ (b : Barometer) (r : ℤ) where
   -- ---- what an answer of the scale correction says
 
-  pub none-there : {x : ScaleCorrection} → x ≡ NoneThere → scaledAs x ≡ scaled b r → outside b r ≡ true
+  pub none-there : {x : Valued} → x ≡ NoneThere → scaledAs x ≡ scaled b r → outside b r ≡ true
   unfolding scaled answer
   none-there n e = go (outside b r) refl
     where
@@ -26,7 +26,7 @@ module _ (b : Barometer) (r : ℤ) where
     pub there : outside b r ≡ false
     pub is : z ≡ scale b r
 
-  pub worked : {x : ScaleCorrection} {z : Number} → x ≡ Tenths z → scaledAs x ≡ scaled b r → Worked (z .v)
+  pub worked : {x : Valued} {z : Number} → x ≡ Value z → scaledAs x ≡ scaled b r → Worked (z .v)
   unfolding scaled answer
   worked {x} {z} n e = go (outside b r) refl
     where

@@ -9,7 +9,8 @@ use Rattle.quantity.specs.declared.BarometerUnit.{BarometerUnit}
 use Rattle.quantity.specs.declared.BarometerUnit.the-variants.{Hectopascals, Millimetres}
 use Rattle.settings.specs.Settings.{pointAt}
 use Rattle.settings.specs.declared.Point.{Point}
-use Rattle.pressure.specs.Pressure.{Barometer, scaleFrom, scale, temperature, height, corrected, toHectopascals, roundedOnce, seaLevel}
+use Rattle.certificate.specs.Line.{valueFrom}
+use Rattle.pressure.specs.Pressure.{Barometer, scale, temperature, height, corrected, toHectopascals, roundedOnce, seaLevel}
 use Rattle.pressure.specs.Before.{seaLevelBefore}
 
 abbrev pub end : ℤ → Point
@@ -33,14 +34,14 @@ pub in-millimetres : let b = barometer Millimetres (pos 0) (negℤ (pos 5)) (pos
     (seaLevel b (pos 7400) (pos 0) ≡ pos 9865)
     × (seaLevelBefore b (pos 7400) (pos 0) ≡ pos 9864)
     × (toHectopascals Millimetres (rounded (corrected b (pos 7400) (pos 0) (pos 0)) 1000) ≡ pos 9866)
-unfolding seaLevel seaLevelBefore scaleFrom scale temperature height nearest rounded
+unfolding seaLevel seaLevelBefore valueFrom scale temperature height nearest rounded
 in-millimetres = (refl, refl, refl)
 
 -- 1000.0 hPa at 1.1 m: 1000.1463. With 0.1463 rounded to 0.15 it would be 1000.2.
 pub in-hectopascals :
     (seaLevel (barometer Hectopascals (pos 11) (pos 0) (pos 0)) (pos 10000) (pos 0) ≡ pos 10001)
     × (roundedOnce Hectopascals (pos 10000 *ℤ pos 1000 +ℤ rounded (height Hectopascals (pos 11) (pos 0)) 100 *ℤ pos 100) ≡ pos 10002)
-unfolding seaLevel scaleFrom scale temperature height nearest rounded
+unfolding seaLevel valueFrom scale temperature height nearest rounded
 in-hectopascals = (refl, refl)
 
 -- 1000.0 hPa at 0.1 m, coefficient 25, 1.8 °C: the temperature correction, 0.045, is rounded to 0.0, so 1000.0133. With both exact it
@@ -48,5 +49,5 @@ in-hectopascals = (refl, refl)
 pub temperature-stays-rounded :
     (seaLevel (barometer Hectopascals (pos 1) (pos 0) (pos 25)) (pos 10000) (pos 18) ≡ pos 10000)
     × (roundedOnce Hectopascals (pos 10000 *ℤ pos 1000 +ℤ pos 25 *ℤ pos 18 +ℤ height Hectopascals (pos 1) (pos 0)) ≡ pos 10001)
-unfolding seaLevel scaleFrom scale temperature height nearest rounded
+unfolding seaLevel valueFrom scale temperature height nearest rounded
 temperature-stays-rounded = (refl, refl)

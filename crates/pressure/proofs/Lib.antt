@@ -1,9 +1,6 @@
-pub mod OrderLaws
-pub mod LineLaws
-pub mod PairLaws
 pub mod SizeLaws
+pub mod CertificateLaws
 pub mod AnswerLaws
-pub mod RisingLaws
 pub mod ScaleLaws
 pub mod NearLaws
 pub mod PressureTheorems

@@ -3,8 +3,8 @@
 -- A block that was opened works as its settings say. And the two units of pressure are kept apart, with a factor that is the paper's.
 -- Assumes nothing.
 use mathlib.Core.Path.{_≡_, refl, ap, _∙_}
-use mathlib.Core.Bool.{true, false, not, _&&_}
-use Prim.Native.Nat.{ℕ, zero, suc, _+_, _-_, _*_, _≤_, _<_}
+use mathlib.Core.Bool.{true, false, _&&_}
+use Prim.Native.Nat.{ℕ, _-_, _*_, _≤_, _<_}
 use native.Mathlib.Omega.{arith}
 use lib.Dec.{lit≤}
 use lib.IntN.{ℤ, pos, negℤ, natAbs, _+ℤ_, _-ℤ_}
@@ -15,13 +15,14 @@ use Rattle.quantity.specs.Limits.{inside, pressureLimits, recordedPressure, whe
 use Rattle.quantity.specs.declared.BarometerUnit.{BarometerUnit}
 use Rattle.quantity.specs.declared.BarometerUnit.the-variants.{Hectopascals, Millimetres}
 use Rattle.message.specs.Receive.{Figure, pressure}
-use Rattle.settings.specs.Settings.{every, pointAt, correction, othersHold, checked}
+use Rattle.settings.specs.Settings.{pointAt, correction, othersHold, checked}
 use Rattle.settings.specs.Settings as settings
 use Rattle.settings.specs.declared.Settings.{Settings}
-use Rattle.settings.specs.declared.Point.{Point}
+use Rattle.certificate.specs.Line.{valueFrom, noneRound}
+use Rattle.certificate.proofs.SameLaws.{same-value, same-none}
 use Rattle.block.specs.Words.{opened}
 use Rattle.block.proofs.SettingsLaws.{others, each, settings-back}
-use Rattle.pressure.specs.Pressure.{Barometer, barometerIn, barometerOf, around, scaleFrom, scale, outside, inUnit, tenthsIn, temperature, perMetre, height, factor, seaLevel, stationPressure, seaLevelAnswer, stationAnswer}
+use Rattle.pressure.specs.Pressure.{Barometer, barometerIn, barometerOf, corner, scale, outside, inUnit, tenthsIn, temperature, perMetre, height, factor, seaLevel, stationPressure, seaLevelAnswer, stationAnswer}
 use Rattle.pressure.proofs.ScaleLaws.{two}
 use Rattle.pressure.proofs.SizeLaws.{scale-size, temperature-size, height-size}
 use Rattle.pressure.proofs.NearLaws.{Among, apart, recorded, fewest, most, tenths-near, sea-level-near, station-near}
@@ -102,32 +103,22 @@ pub record Alike (b c : Barometer) : Type 0 where
   pub points : b .points ≡ c .points
   pub point : (i : ℕ) → i < c .points → b .point i ≡ c .point i
 
-module _ (f h : ℕ → Point) (r : ℤ) where
-  same-scale : (i n : ℕ) → ((k : ℕ) → 0 < n → k ≤ i + n → f k ≡ h k) → scaleFrom f r i n ≡ scaleFrom h r i n
-  unfolding scaleFrom
-  same-scale i zero e = refl
-  same-scale i (suc n) e =
-      rw (e i (omega arith) (omega arith), e (i + 1) (omega arith) (omega arith), same-scale (i + 1) n (λ k z l. e k (omega arith) (omega arith)))
-
-  same-outside : (i n : ℕ) → ((k : ℕ) → 0 < n → k ≤ i + n → f k ≡ h k)
-      → every (λ k. not (around (f k) (f (k + 1)) r)) i n ≡ every (λ k. not (around (h k) (h (k + 1)) r)) i n
-  unfolding every
-  same-outside i zero e = refl
-  same-outside i (suc n) e =
-      rw (e i (omega arith) (omega arith), e (i + 1) (omega arith) (omega arith), same-outside (suc i) n (λ k z l. e k (omega arith) (omega arith)))
-
 module _ (b c : Barometer) (a : Alike b c) (r : ℤ) where
+  -- their points are corners of the same line
+  at : (i : ℕ) → i < c .points → corner (b .point i) ≡ corner (c .point i)
+  at i h = ap corner (a .point i h)
+
   pub alike-scale : scale b r ≡ scale c r
   unfolding scale
   alike-scale =
-      ap (λ (n : ℕ). scaleFrom (b .point) r 0 (n - 1)) (a .points)
-      ∙ same-scale (b .point) (c .point) r 0 (c .points - 1) (λ k z l. a .point k (omega arith))
+      ap (λ (n : ℕ). valueFrom (λ i. corner (b .point i)) r 0 (n - 1)) (a .points)
+      ∙ same-value (λ i. corner (b .point i)) (λ i. corner (c .point i)) r (c .points) at
 
   pub alike-outside : outside b r ≡ outside c r
   unfolding outside
   alike-outside =
-      ap (λ (n : ℕ). every (λ k. not (around (b .point k) (b .point (k + 1)) r)) 0 (n - 1)) (a .points)
-      ∙ same-outside (b .point) (c .point) r 0 (c .points - 1) (λ k z l. a .point k (omega arith))
+      ap (λ (n : ℕ). noneRound (λ i. corner (b .point i)) r (n - 1)) (a .points)
+      ∙ same-none (λ i. corner (b .point i)) (λ i. corner (c .point i)) r (c .points) at
 
   pub alike-sea-level : (t : ℤ) → seaLevel b r t ≡ seaLevel c r t
   unfolding seaLevel

@@ -19,9 +19,9 @@ use Rattle.quantity.specs.declared.BarometerUnit.{BarometerUnit}
 use Rattle.quantity.specs.declared.BarometerUnit.the-variants.{Hectopascals, Millimetres}
 use Rattle.settings.specs.Settings.{checked}
 use Rattle.settings.specs.declared.Settings.{Settings}
+use Rattle.certificate.proofs.OrderLaws.{down, down-neg, down-times}
 use Rattle.pressure.specs.Pressure.{barometerIn, scale, temperature, perMetre, height, toHectopascals, roundedOnce, seaLevel}
 use Rattle.pressure.specs.Before.{seaLevelBefore}
-use Rattle.pressure.proofs.OrderLaws.{down}
 use Rattle.pressure.proofs.NearLaws.{Among, fewest, most, near}
 use Rattle.pressure.proofs.PressureTheorems.{sizes, by-height, tenths-among}
 
@@ -68,16 +68,6 @@ sums n (negsuc k) h =
     }
 
 -- ---- in hPa no height comes to a half below zero: 133 times 1 to 300 never ends in 500
-
-down-neg : (m : ℕ) → down (negℤ (pos m)) ≡ m
-unfolding down
-down-neg zero = refl
-down-neg (suc m) = refl
-
-down-times : (z : ℤ) (k : ℕ) → down (z *ℤ pos k) ≡ down z * k
-unfolding down
-down-times (pos j) k = omega arith
-down-times (negsuc j) k = down-neg (suc j * k)
 
 down-sum : (a : ℕ) (d : ℤ) → down (pos a +ℤ d) ≤ natAbs d
 unfolding down

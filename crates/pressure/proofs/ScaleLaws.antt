@@ -2,17 +2,16 @@
 -- it is that point's correction, and a reading is outside exactly when it lies below the first point's or above the last's. One that
 -- is not is within the barometer's limits.
 -- From the laws of rising points. Assumes nothing.
-use mathlib.Core.Path.{_≡_, refl, sym, ap, _∙_, subst}
+use mathlib.Core.Path.{_≡_, refl, sym, ap, _∙_}
 use mathlib.Core.Bool.{Bool, true, false, not, _&&_}
-use mathlib.Core.Logic.{_↔_, _⊎_, inl, inr}
+use mathlib.Core.Logic.{_↔_, _⊎_}
 use Prim.Native.Nat.{ℕ, _+_, _-_, _≤_, _<_}
 use native.Mathlib.Omega.{arith}
-use native.Mathlib.Decide.{decLt}
 use native.Mathlib.Nat.{zero-add}
 use lib.Dec.{leb}
 use lib.IntN.{ℤ}
 use lib.Signed.{leZ, ltZ}
-use borrow.Author.Tests.{leb-true, not-true, not-false}
+use borrow.Author.Tests.{leb-true, not-false}
 use Rattle.number.specs.Refusal.{given}
 use Rattle.number.specs.Whole.{within}
 use Rattle.number.proofs.Sizes.{and-true, both}
@@ -21,15 +20,20 @@ use Rattle.settings.specs.Settings.{every, pointAt, pointHolds, rises, certific
 use Rattle.settings.specs.declared.Settings.{Settings}
 use Rattle.settings.specs.declared.Point.{Point}
 use Rattle.settings.proofs.EveryLaws.{every-at}
+use Rattle.certificate.specs.declared.Corner.{Corner}
+use Rattle.certificate.proofs.OrderLaws.{at-most, is-at-most}
+use Rattle.certificate.proofs.LineLaws.{at-low, at-high}
+use Rattle.certificate.proofs.RisingLaws.{any-from, stands-at-own-readings, at-corner, outside-is}
+use Rattle.certificate.proofs.RisingLaws as rising-laws
 use Rattle.block.proofs.OpenedLaws.{certificate}
-use Rattle.pressure.specs.Pressure.{barometerIn, around, between, scale, outside}
-use Rattle.pressure.proofs.OrderLaws.{below-is, at-most, is-at-most}
-use Rattle.pressure.proofs.LineLaws.{at-low, at-high}
-use Rattle.pressure.proofs.RisingLaws.{any-from, stands, not-outside, outside-is}
+use Rattle.pressure.specs.Pressure.{barometerIn, corner, around, between, scale, outside}
 
 module _ (g : Settings) (good : checked g ≡ given tt) where
   abbrev point : ℕ → Point
   point = pointAt (g .points)
+
+  abbrev at : ℕ → Corner
+  at i = corner (point i)
 
   rising : (k : ℕ) → k < g .count - 1 → rises (point k) (point (k + 1)) ≡ true
   unfolding certificateHolds
@@ -48,69 +52,27 @@ module _ (g : Settings) (good : checked g ≡ given tt) where
   pub any-pair : (i : ℕ) (r : ℤ) → i + 1 < g .count → around (point i) (point (i + 1)) r ≡ true
       → scale (barometerIn g) r ≡ between (point i) (point (i + 1)) r
   unfolding scale
-  any-pair i r h a = any-from point (g .count - 1) rising r i 0 (g .count - 1) (omega arith) (omega arith) (omega arith) a
+  any-pair i r h a = any-from at (g .count - 1) rising r i 0 (g .count - 1) (omega arith) (omega arith) (omega arith) a
 
   -- The two lines that meet at a point agree there.
   pub lines-meet : (i : ℕ) → i + 1 + 1 < g .count → let r = point (i + 1) .reading .v in
       between (point i) (point (i + 1)) r ≡ between (point (i + 1)) (point (i + 1 + 1)) r
   lines-meet i h =
       let r = point (i + 1) .reading .v in
-      at-high (point i) (point (i + 1)) r (stands point (g .count - 1) rising i (omega arith) .1) refl
-      ∙ sym (at-low (point (i + 1)) (point (i + 1 + 1)) r (stands point (g .count - 1) rising (i + 1) (omega arith) .0) refl)
+      at-high (at i) (at (i + 1)) r (stands-at-own-readings at (g .count - 1) rising i (omega arith) .1) refl
+      ∙ sym (at-low (at (i + 1)) (at (i + 1 + 1)) r (stands-at-own-readings at (g .count - 1) rising (i + 1) (omega arith) .0) refl)
 
   -- "at a point, that point's correction": no reading of a point is outside, and it is corrected by what stands there.
   pub at-point : (i : ℕ) → i < g .count
       → (outside (barometerIn g) (point i .reading .v) ≡ false) × (scale (barometerIn g) (point i .reading .v) ≡ point i .correction .0 .v)
-  unfolding outside
-  at-point i h = go (decLt (i + 1) (g .count))
-    where
-      up-to : (k : ℕ) → k < g .count - 1
-          → (outside (barometerIn g) (point (k + 1) .reading .v) ≡ false) × (scale (barometerIn g) (point (k + 1) .reading .v) ≡ point (k + 1) .correction .0 .v)
-      up-to k l =
-          let r = point (k + 1) .reading .v in
-          let a = stands point (g .count - 1) rising k l .1 in (
-            not-outside point (g .count - 1) rising r k l a,
-            any-pair k r (omega arith) a ∙ at-high (point k) (point (k + 1)) r a refl,
-          )
-
-      go : Dec (i + 1 < g .count) → (outside (barometerIn g) (point i .reading .v) ≡ false) × (scale (barometerIn g) (point i .reading .v) ≡ point i .correction .0 .v)
-      go (yes l) =
-          let r = point i .reading .v in
-          let a = stands point (g .count - 1) rising i (omega arith) .0 in (
-            not-outside point (g .count - 1) rising r i (omega arith) a,
-            any-pair i r l a ∙ at-low (point i) (point (i + 1)) r a refl,
-          )
-      go (no l) =
-          let e : i - 1 + 1 ≡ i = omega (arith, two) in
-          subst (λ (k : ℕ). (outside (barometerIn g) (point k .reading .v) ≡ false) × (scale (barometerIn g) (point k .reading .v) ≡ point k .correction .0 .v)) e
-          (up-to (i - 1) (omega (arith, two)))
+  unfolding outside scale
+  at-point i h = at-corner at (g .count - 1) rising (omega (arith, two)) i (omega arith)
 
   -- A reading is outside exactly when it lies below the first point's or above the last's.
   pub outside-exactly : (r : ℤ) → let first = point 0 .reading .v in let last = point (g .count - 1) .reading .v in
       (outside (barometerIn g) r ≡ true) ↔ ((ltZ r first ≡ true) ⊎ (ltZ last r ≡ true))
   unfolding outside
-  outside-exactly r = (λ e. from (leZ first r) refl (sym is ∙ e), λ e. is ∙ back e)
-    where
-      first : ℤ
-      first = point 0 .reading .v
-
-      last : ℤ
-      last = point (g .count - 1) .reading .v
-
-      is : outside (barometerIn g) r ≡ not (within first last r)
-      is = outside-is point (g .count - 1) rising r (omega (arith, two))
-
-      from : (t : Bool) → leZ first r ≡ t → not (within first last r) ≡ true → (ltZ r first ≡ true) ⊎ (ltZ last r ≡ true)
-      from true f e = inr (below-is last r ∙ (rw f at e))
-      from false f e = inl (below-is r first ∙ ap not f)
-
-      either : (t : Bool) → leZ r last ≡ false → not (t && leZ r last) ≡ true
-      either true e = rw e
-      either false e = refl
-
-      back : (ltZ r first ≡ true) ⊎ (ltZ last r ≡ true) → not (within first last r) ≡ true
-      back (inl e) = rw (not-true (leZ first r) (sym (below-is r first) ∙ e))
-      back (inr e) = either (leZ first r) (not-true (leZ r last) (sym (below-is last r) ∙ e))
+  outside-exactly r = rising-laws.outside-exactly at (g .count - 1) rising (omega (arith, two)) r
 
   -- A reading that has a scale correction is within its barometer's limits, since both ends of the certificate are: so no figure is
   -- given for one outside them.
@@ -141,7 +103,7 @@ module _ (g : Settings) (good : checked g ≡ given tt) where
       last = point (g .count - 1) .reading .v
 
       ends : (leZ first r ≡ true) × (leZ r last ≡ true)
-      ends = and-true (leZ first r) (leZ r last) (not-false (within first last r) (sym (outside-is point (g .count - 1) rising r (omega (arith, two))) ∙ e))
+      ends = and-true (leZ first r) (leZ r last) (not-false (within first last r) (sym (outside-is at (g .count - 1) rising r (omega (arith, two))) ∙ e))
 
       in-turn : (x y z : ℤ) → leZ x y ≡ true → leZ y z ≡ true → leZ x z ≡ true
       in-turn x y z h k = is-at-most x z (omega (arith, at-most x y h, at-most y z k))

@@ -1,29 +1,25 @@
 -- How large the corrections can be: no larger than the coefficients, heights and points that they are worked from allow. For
 -- any block, whose figures are 16 bits each, that is little enough for every sum to fit. Assumes nothing.
 use mathlib.Core.Path.{_≡_, refl}
-use mathlib.Core.Bool.{Bool, true, false, not}
+use mathlib.Core.Bool.{Bool, true, false}
 use mathlib.Core.List.{List}
-use Prim.Native.Nat.{ℕ, zero, suc, _+_, _-_, _*_, _/_, _%_, _≤_, zero-le}
+use Prim.Native.Nat.{ℕ, _+_, _-_, _*_, _/_, _≤_, zero-le}
 use native.Mathlib.Omega.{arith}
-use native.Mathlib.Nat.{le-trans, le-of-eq, mul-le-mul-left, mul-le-mul-right}
+use native.Mathlib.Nat.{le-trans, le-of-eq, mul-le-mul-right}
 use lib.Dec.{ltb, lit≤, lit<}
 use lib.IntN.{ℤ, pos, natAbs, _+ℤ_, _*ℤ_}
 use lib.ListN.{getD}
 use Rattle.number.specs.Round.{nearest, rounded}
-use Rattle.number.proofs.Sizes.{impossible, size-sum, size-mul}
+use Rattle.number.proofs.Sizes.{size-sum, size-mul}
 use Rattle.quantity.specs.declared.BarometerUnit.{BarometerUnit}
 use Rattle.quantity.specs.declared.BarometerUnit.the-variants.{Hectopascals, Millimetres}
-use Rattle.settings.specs.Settings.{every}
 use Rattle.settings.specs.declared.Point.{Point}
 use Rattle.block.specs.Layout.{POINTS}
 use Rattle.cell.specs.Cells.{unbiased}
+use Rattle.certificate.proofs.LineLaws.{rounded-at-most}
+use Rattle.certificate.proofs.SizeLaws.{product, unbiased-size, value-size, round-size}
 use Rattle.block.specs.Words.{unitOf, settingOf, pointsOf, pointOf}
-use Rattle.pressure.specs.Pressure.{Barometer, barometerOf, around, scaleFrom, scale, outside, temperature, perMetre, height, factor, roundedOnce, seaLevel}
-use Rattle.pressure.specs.Stored.{Stored}
-use Rattle.pressure.proofs.LineLaws.{rounded-at-most, between-size, reading-size}
-
-pub product : {a b m n : ℕ} → a ≤ m → b ≤ n → a * b ≤ m * n
-product {a} {b} {m} {n} h k = le-trans (mul-le-mul-left a k) (mul-le-mul-right n h)
+use Rattle.pressure.specs.Pressure.{Barometer, barometerOf, corner, scale, outside, temperature, perMetre, height, factor, roundedOnce, seaLevel}
 
 pub temperature-size : (c t : ℤ) (m n k : ℕ) → natAbs c ≤ m → natAbs t ≤ n → m * n ≤ k * 1000 → natAbs (temperature c t) ≤ k
 unfolding temperature
@@ -35,61 +31,37 @@ pub height-size : (u : BarometerUnit) (h d : ℤ) (k : ℕ) → natAbs h + natAb
 unfolding height
 height-size u h d k l = le-trans (le-of-eq (size-mul (h +ℤ d) (pos (perMetre u)))) (mul-le-mul-right (perMetre u) (le-trans (size-sum h d) l))
 
--- the scale correction: the points up to the last one used bound it
-scale-from-size : (point : ℕ → Point) (r : ℤ) (k i n : ℕ) → ((j : ℕ) → j ≤ i + n → natAbs (point j .correction .0 .v) ≤ k)
-    → natAbs (scaleFrom point r i n) ≤ k
-unfolding scaleFrom
-scale-from-size point r k i zero f = zero-le
-scale-from-size point r k i (suc n) f =
-    go (around (point i) (point (i + 1)) r) refl (scale-from-size point r k (i + 1) n (λ j h. f j (omega arith)))
-  where
-    go : (t : Bool) → around (point i) (point (i + 1)) r ≡ t → natAbs (scaleFrom point r (i + 1) n) ≤ k → natAbs (scaleFrom point r i (suc n)) ≤ k
-    go true e rest = rw e (between-size (point i) (point (i + 1)) r k e (f i (omega arith)) (f (i + 1) (omega arith)))
-    go false e rest = rw e rest
-
+-- the scale correction: no larger than what a point says
 pub scale-size : (b : Barometer) (r : ℤ) (k : ℕ) → ((j : ℕ) → j ≤ b .points - 1 → natAbs (b .point j .correction .0 .v) ≤ k) → natAbs (scale b r) ≤ k
 unfolding scale
-scale-size b r k f = scale-from-size (b .point) r k 0 (b .points - 1) (λ j h. f j (omega arith))
+scale-size b r k f = value-size (λ i. corner (b .point i)) r k 0 (b .points - 1) (λ j h. f j (omega arith))
 
 -- ---- what a block can hold
 
-pub setting-size : (n : ℕ) → natAbs (unbiased n) ≤ 32768
-setting-size n = go (ltb (n % 65536) 32768) refl
-  where
-    go : (t : Bool) → ltb (n % 65536) 32768 ≡ t → natAbs (unbiased n) ≤ 32768
-    go true e = rw e (omega arith)
-    go false e = rw e (omega arith)
+record Stored (p : Point) : Type 0 where
+  reading : natAbs (p .reading .v) ≤ 32768
+  correction : natAbs (p .correction .0 .v) ≤ 32768
 
-pub stored : (s : List ℕ) (i : ℕ) → Stored (pointOf s i)
+stored : (s : List ℕ) (i : ℕ) → Stored (pointOf s i)
 stored s i = go (ltb i 16) refl
   where
     go : (t : Bool) → ltb i 16 ≡ t → Stored (pointOf s i)
-    go true e = rw e (let w = getD s (POINTS + i) 0 in record { reading = setting-size w; correction = setting-size (w / 65536) })
+    go true e = rw e (let w = getD s (POINTS + i) 0 in record { reading = unbiased-size w; correction = unbiased-size (w / 65536) })
     go false e = rw e (record { reading = zero-le; correction = zero-le })
 
 pub scale-stored : (s : List ℕ) (r : ℤ) → natAbs (scale (barometerOf s) r) ≤ 32768
 scale-stored s r = scale-size (barometerOf s) r 32768 (λ j h. stored s j .correction)
 
 -- a reading within the certificate is no larger than its points
-certified-from : (s : List ℕ) (r : ℤ) (i n : ℕ) → every (λ (k : ℕ). not (around (pointOf s k) (pointOf s (k + 1)) r)) i n ≡ false → natAbs r ≤ 32768
-unfolding every
-certified-from s r i zero e = impossible (cc)
-certified-from s r i (suc n) e = by (around (pointOf s i) (pointOf s (i + 1)) r) refl (certified-from s r (suc i) n)
-  where
-    by : (t : Bool) → around (pointOf s i) (pointOf s (i + 1)) r ≡ t
-        → (every (λ (k : ℕ). not (around (pointOf s k) (pointOf s (k + 1)) r)) (suc i) n ≡ false → natAbs r ≤ 32768) → natAbs r ≤ 32768
-    by true a rest = reading-size (pointOf s i) (pointOf s (i + 1)) r 32768 a (stored s i .reading) (stored s (i + 1) .reading)
-    by false a rest = rest (rw a at e)
-
 pub certified-stored : (s : List ℕ) (r : ℤ) → outside (barometerOf s) r ≡ false → natAbs r ≤ 32768
 unfolding outside
-certified-stored s r h = certified-from s r 0 (pointsOf s - 1) h
+certified-stored s r h = round-size (λ i. corner (pointOf s i)) r 32768 (pointsOf s - 1) (λ j. stored s j .reading) h
 
 pub temperature-stored : (n : ℕ) (t : ℤ) → natAbs t ≤ 600 → natAbs (temperature (unbiased n) t) ≤ 19661
-temperature-stored n t h = temperature-size (unbiased n) t 32768 600 19661 (setting-size n) h (lit≤ tt)
+temperature-stored n t h = temperature-size (unbiased n) t 32768 600 19661 (unbiased-size n) h (lit≤ tt)
 
 height-stored : (u : BarometerUnit) (m n : ℕ) → natAbs (height u (unbiased m) (unbiased n)) ≤ 8716288
-height-stored u m n = le-trans (height-size u (unbiased m) (unbiased n) 65536 (omega (arith, setting-size m, setting-size n))) (fits u)
+height-stored u m n = le-trans (height-size u (unbiased m) (unbiased n) 65536 (omega (arith, unbiased-size m, unbiased-size n))) (fits u)
   where
     fits : (u : BarometerUnit) → 65536 * perMetre u ≤ 8716288
     fits Hectopascals = lit≤ tt

@@ -1,3 +1,2 @@
 pub mod Pressure
-pub mod Stored
 pub mod Before

@@ -1,11 +1,10 @@
 -- Sea level pressure and station pressure (document 01, "Pressure and tendency" and "Humidity"; document 02, W2; 004, section 6).
 -- A reading comes with its unit, as a figure. Without it readings, corrections and temperatures are in tenths, but the height
 -- correction, which is exact, in ten-thousandths.
-use mathlib.Core.Bool.{Bool, true, false, not, _&&_, _||_, cond}
+use mathlib.Core.Bool.{Bool, true, false, not, _||_}
 use mathlib.Core.List.{List, [], _∷_}
-use Prim.Native.Nat.{ℕ, zero, suc, _+_, _-_, _*_}
-use lib.IntN.{ℤ, pos, natAbs, _+ℤ_, _-ℤ_, _*ℤ_}
-use lib.Signed.{leZ}
+use Prim.Native.Nat.{ℕ, _-_, _*_}
+use lib.IntN.{ℤ, pos, _+ℤ_, _*ℤ_}
 use Rattle.number.specs.Round.{rounded}
 use Rattle.number.specs.Refusal.{Test, Answer, refused, given, answer}
 use Rattle.quantity.specs.Limits.{inside, wheelhouse}
@@ -13,14 +12,17 @@ use Rattle.quantity.specs.Convert.{inHectopascals}
 use Rattle.quantity.specs.declared.BarometerUnit.{BarometerUnit}
 use Rattle.quantity.specs.declared.BarometerUnit.the-variants.{Hectopascals, Millimetres}
 use Rattle.message.specs.Receive.{Figure, hPa, mmHg, byUnit, itself, nought}
-use Rattle.settings.specs.Settings.{every, pointAt, rises}
+use Rattle.settings.specs.Settings.{pointAt}
 use Rattle.settings.specs.declared.Settings.{Settings}
 use Rattle.settings.specs.declared.Point.{Point}
+use Rattle.certificate.specs.Line.{stands, valueFrom, noneRound}
+use Rattle.certificate.specs.Line as line
+use Rattle.certificate.specs.declared.Corner.{Corner}
+use Rattle.certificate.specs.declared.Valued.{Valued}
+use Rattle.certificate.specs.declared.Valued.the-variants.{Value, NoneThere}
 use Rattle.block.specs.Words.{unitOf, settingOf, pointsOf, pointOf}
 use Rattle.pressure.specs.declared.BarometerReading.{BarometerReading}
 use Rattle.pressure.specs.declared.BarometerReading.the-variants as reading
-use Rattle.pressure.specs.declared.ScaleCorrection.{ScaleCorrection}
-use Rattle.pressure.specs.declared.ScaleCorrection.the-variants.{Tenths, NoneThere}
 use Rattle.pressure.specs.declared.WorkedPressure.{WorkedPressure}
 use Rattle.pressure.specs.declared.WorkedPressure.the-variants.{Given, OutsideLimits, OutsideCertificate}
 
@@ -79,33 +81,25 @@ tenthsIn Millimetres f = byUnit nought itself nought nought nought nought (pos 0
 
 -- ---- the three corrections
 
--- "the two certificate points round the reading": neighbours, the first with the lower reading
+-- A point of the certificate as a corner of its line: it reads a pressure, and gives that reading's correction.
+abbrev pub corner : Point → Corner
+corner p = record { reads = record { v = p .reading .v }; gives = record { v = p .correction .0 .v } }
+
+-- "the two certificate points round the reading"
 abbrev pub around : Point → Point → ℤ → Bool
-around p q reading = rises p q && leZ (p .reading .v) reading && leZ reading (q .reading .v)
+around p q reading = stands (corner p) (corner q) reading
 
--- "the straight line between the two .. points", times the distance of their readings
-abbrev pub line : Point → Point → ℤ → ℤ
-line p q reading =
-    p .correction .0 .v *ℤ (q .reading .v -ℤ reading) +ℤ q .correction .0 .v *ℤ (reading -ℤ p .reading .v)
-
--- "rounded to 0.1", as a whole
+-- "the straight line between the two .. points, rounded to 0.1"
 abbrev pub between : Point → Point → ℤ → ℤ
-between p q reading = rounded (line p q reading) (natAbs (q .reading .v -ℤ p .reading .v))
-
--- Of n pairs of neighbours from place i on, the first that stands round the reading gives the correction. (In a certificate
--- that holds its rules every pair that stands round it gives the same: `any-pair`.)
-unfoldable pub scaleFrom : (ℕ → Point) → ℤ → ℕ → ℕ → ℤ
-scaleFrom point reading i zero = pos 0
-scaleFrom point reading i (suc n) =
-    cond (around (point i) (point (i + 1)) reading) (between (point i) (point (i + 1)) reading) (scaleFrom point reading (i + 1) n)
+between p q reading = line.between (corner p) (corner q) reading
 
 -- "Scale correction: the straight line between the two certificate points round the reading, rounded to 0.1"
 unfoldable pub scale : Barometer → ℤ → ℤ
-scale b reading = scaleFrom (b .point) reading 0 (b .points - 1)
+scale b reading = valueFrom (λ i. corner (b .point i)) reading 0 (b .points - 1)
 
 -- 12: "barometer reading outside the certificate": no neighbours stand round it
 unfoldable pub outside : Barometer → ℤ → Bool
-outside b reading = every (λ i. not (around (b .point i) (b .point (i + 1)) reading)) 0 (b .points - 1)
+outside b reading = noneRound (λ i. corner (b .point i)) reading (b .points - 1)
 
 -- "Temperature correction: coefficient times wheelhouse temperature, rounded to 0.1": thousandths times tenths
 unfoldable pub temperature : ℤ → ℤ → ℤ
@@ -171,8 +165,8 @@ stationAnswer b f =
     (stationPressure b (tenthsIn (b .unit) f))
 
 -- Document 01's number and value of each case.
-abbrev pub scaledAs : ScaleCorrection → Answer ℕ ℤ
-scaledAs (Tenths n) = given (n .v)
+abbrev pub scaledAs : Valued → Answer ℕ ℤ
+scaledAs (Value n) = given (n .v)
 scaledAs NoneThere = refused 12
 
 abbrev pub pressureAs : WorkedPressure → Answer ℕ ℤ

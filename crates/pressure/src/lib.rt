@@ -2,22 +2,18 @@
 // A reading comes with its unit. Behind `tenths_in` a number is one of tenths of the unit that the store is set to, but where it is said
 // to be one of ten-thousandths.
 ghost use mathlib.Core.Path.{_≡_};
-ghost use mathlib.Core.Bool.{true};
 ghost use Prim.Native.Nat.{_≤_, _<_, _^_};
-ghost use lib.IntN.{natAbs, _*ℤ_};
-ghost use lib.Signed.{leZ};
+ghost use lib.IntN.{natAbs};
 ghost use Rattle.number.specs.Whole.{Is};
-ghost use Rattle.pressure.specs.Pressure.{barometerOf, inUnit, around, line, between, temperature, height, corrected, toHectopascals, roundedOnce, tenthsIn, readingAs, scaled, scaledAs, seaLevelAnswer, stationAnswer, pressureAs};
-ghost use Rattle.pressure.specs.Stored.{Stored};
+ghost use Rattle.pressure.specs.Pressure.{barometerOf, inUnit, temperature, height, corrected, toHectopascals, roundedOnce, tenthsIn, readingAs, scaled, scaledAs, seaLevelAnswer, stationAnswer, pressureAs};
 use block::Store;
+use certificate::Valued;
 use number::Number;
 use quantity::BarometerUnit;
 use quantity::Hectopascals;
 use quantity::Millimetres;
 use quantity::WheelhouseTemperature;
-use settings::Correction;
 use settings::Height;
-use settings::Point;
 use settings::SeaLevelDifference;
 use settings::TemperatureCoefficient;
 
@@ -25,13 +21,6 @@ use settings::TemperatureCoefficient;
 pub enum BarometerReading {
     Hectopascals(Hectopascals),
     Millimetres(Millimetres),
-}
-
-// The scale correction of a reading.
-enum ScaleCorrection {
-    Tenths(Number),
-    // 12: the reading lies outside the certificate
-    NoneThere,
 }
 
 // A pressure that was worked from a reading.
@@ -80,83 +69,11 @@ fn tenths_in(unit: BarometerUnit, reading: BarometerReading) -> Number
     }
 }
 
-// Whether two neighbouring points of a certificate stand round a reading.
-fn around(p: Point, q: Point, reading: Number) -> bool
-    ensures { λ r. ⌜ r ≡ around p q (reading .v) ⌝ }
-{
-    let low = p.reading;
-    let high = q.reading;
-    let from = low.number();
-    let to = high.number();
-    if to.at_most(from) {
-        return false;
-    }
-    if !from.at_most(reading) {
-        return false;
-    }
-    reading.at_most(to)
-}
-
-// Whether a reading is at most a point's.
-fn up_to(p: Point, reading: Number) -> bool
-    ensures { λ r. ⌜ r ≡ leZ (reading .v) (p .reading .v) ⌝ }
-{
-    let high = p.reading;
-    reading.at_most(high.number())
-}
-
-// A correction times a distance of readings.
-fn weighed(by: Correction, distance: Number) -> Number
-    requires { ⌜ (natAbs (by .0 .v) ≤ 32768) × (natAbs (distance .v) ≤ 65536) ⌝ }
-    ensures { λ r. ⌜ Is (r .v) (by .0 .v *ℤ distance .v) (2 ^ 31) ⌝ }
-{
-    let n = by.0;
-    n.number().times(distance)
-}
-
-// The straight line between two points, at a reading between theirs, times the distance of their readings.
-fn line(p: Point, q: Point, reading: Number) -> Number
-    requires { ⌜ Stored p × Stored q × (natAbs (reading .v) ≤ 32768) ⌝ }
-    ensures { λ r. ⌜ Is (r .v) (line p q (reading .v)) (2 ^ 32) ⌝ }
-{
-    let low = p.reading;
-    let high = q.reading;
-    let to_high = high.number().minus(reading);
-    let from_low = reading.minus(low.number());
-    let a = p.correction;
-    let b = q.correction;
-    weighed(a, to_high).plus(weighed(b, from_low))
-}
-
-// The correction that this line gives, rounded as a whole.
-fn between(p: Point, q: Point, reading: Number) -> Number
-    requires { ⌜ Stored p × Stored q × (around p q (reading .v) ≡ true) ⌝ }
-    ensures { λ r. ⌜ r .v ≡ between p q (reading .v) ⌝ }
-{
-    let low = p.reading;
-    let high = q.reading;
-    let distance = high.number().minus(low.number()).size();
-    line(p, q, reading).over(distance)
-}
-
-// The scale correction: the first two neighbouring points that stand round the reading give it. Or refusal 12: there are none.
-// No pair stands round a reading above its higher point, so that is tested first, and the lower point read after it.
-fn scale_correction(store: &Store, reading: Number) -> ScaleCorrection
+// The scale correction that the certificate gives. Or refusal 12: the reading lies outside it.
+fn scale_correction(store: &Store, reading: Number) -> Valued
     ensures { λ r. ⌜ scaledAs r ≡ scaled (barometerOf (now (store .entry))) (reading .v) ⌝ }
 {
-    let n = block::points(store);
-    let mut i: u32 = 0;
-    while i + 1 < n {
-        let q = block::point(store, i + 1);
-        if up_to(q, reading) {
-            let p = block::point(store, i);
-            if around(p, q, reading) {
-                return ScaleCorrection::Tenths(between(p, q, reading));
-            }
-        }
-        i += 1;
-    }
-    ScaleCorrection::NoneThere
+    certificate::value_at(block::certificate(store), 1, reading)
 }
 
 // The temperature correction, in tenths of the barometer's unit.
@@ -243,8 +160,8 @@ pub fn sea_level_pressure(
     }
     let tenths = tenths_in(unit, reading);
     match scale_correction(store, tenths) {
-        ScaleCorrection::NoneThere => WorkedPressure::OutsideCertificate,
-        ScaleCorrection::Tenths(scale) => {
+        Valued::NoneThere => WorkedPressure::OutsideCertificate,
+        Valued::Value(scale) => {
             let all = corrected(store, tenths, scale, wheelhouse);
             WorkedPressure::Given(rounded_once(unit, all))
         }
@@ -261,8 +178,8 @@ pub fn station_pressure(store: &Store, reading: BarometerReading) -> WorkedPress
     }
     let tenths = tenths_in(unit, reading);
     match scale_correction(store, tenths) {
-        ScaleCorrection::NoneThere => WorkedPressure::OutsideCertificate,
-        ScaleCorrection::Tenths(scale) => {
+        Valued::NoneThere => WorkedPressure::OutsideCertificate,
+        Valued::Value(scale) => {
             let sum = tenths.plus(scale);
             WorkedPressure::Given(in_hectopascals(unit, sum))
         }

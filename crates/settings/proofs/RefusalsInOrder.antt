@@ -1,4 +1,4 @@
--- Settings test in number order: refusal 9 or 10 is given exactly when its reason holds and none of a smaller number does.
+-- Settings test in number order: refusal 9, 10 or 25 is given exactly when its reason holds and none of a smaller number does.
 -- Assumes nothing.
 use mathlib.Core.Path.{_≡_}
 use mathlib.Core.Logic.{_↔_}

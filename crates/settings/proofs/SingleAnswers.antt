@@ -7,13 +7,14 @@ use Rattle.number.specs.Single.{Single}
 use Rattle.number.specs.Refusal.{Answer, refused, given}
 use Rattle.settings.specs.Settings.{checkedAs}
 use Rattle.settings.specs.declared.Checked.{Checked}
-use Rattle.settings.specs.declared.Checked.the-variants.{Good, OutsideLimits, CertificateBroken}
+use Rattle.settings.specs.declared.Checked.the-variants.{Good, OutsideLimits, CertificateBroken, AnemometerBroken}
 use Rattle.settings.proofs.number.Reads as number
 use Rattle.settings.proofs.Height.holds.Reads as height
 use Rattle.settings.proofs.SeaLevelDifference.holds.Reads as difference
 use Rattle.settings.proofs.TemperatureCoefficient.holds.Reads as coefficient
 use Rattle.settings.proofs.PsychrometerCoefficient.holds.Reads as psychrometer
 use Rattle.settings.proofs.Correction.holds.Reads as correction
+use Rattle.settings.proofs.Rate.holds.Reads as rate
 use Rattle.settings.proofs.check.Reads as check
 
 pub single-number : Single number.Post
@@ -34,8 +35,11 @@ single-psychrometer κs a r r′ s s′ p q = p ∙ sym q
 pub single-correction : Single correction.Post
 single-correction κs a r r′ s s′ p q = p ∙ sym q
 
+pub single-rate : Single rate.Post
+single-rate κs a r r′ s s′ p q = p ∙ sym q
+
 pub case-of : Answer ℕ (Unit {0}) → Checked
-case-of (refused n) = cond (eqb n 9) OutsideLimits CertificateBroken
+case-of (refused n) = cond (eqb n 9) OutsideLimits (cond (eqb n 10) CertificateBroken AnemometerBroken)
 case-of (given a) = Good
 
 pub case-back : (c : Checked) → case-of (checkedAs c) ≡ c
@@ -43,6 +47,7 @@ unfolding case-of
 case-back Good = refl
 case-back OutsideLimits = refl
 case-back CertificateBroken = refl
+case-back AnemometerBroken = refl
 
 pub single-check : Single check.Post
 single-check κs a r r′ s s′ p q = sym (case-back r) ∙ ap case-of (p ∙ sym q) ∙ case-back r′

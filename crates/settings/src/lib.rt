@@ -1,17 +1,21 @@
-// The settings of a store: their limits, and refusals 9 and 10.
+// The settings of a store: their limits, and refusals 9, 10 and 25.
 ghost use mathlib.Core.Path.{_≡_};
 ghost use mathlib.Core.Bool.{Bool, true, false, _&&_};
 ghost use Prim.Native.Nat.{ℕ, _+_, _-_, _≤_, _<_};
 ghost use lib.ListN.{getD};
 ghost use Rattle.number.specs.Refusal.{numberIn};
 ghost use Rattle.quantity.specs.Limits.{inside};
-ghost use Rattle.settings.specs.Settings.{height, difference, coefficient, psychrometer, correction, every, pointAt, pointHolds, rises, certificateHolds, othersHold, checked, checkedAs};
+ghost use Rattle.settings.specs.Settings.{height, difference, coefficient, psychrometer, correction, every, pointAt, pointHolds, rises, certificateHolds, rate, ratePointAt, ratePointHolds, ratesRise, anemometerHolds, othersHold, checked, checkedAs};
 use number::Kept;
 use number::Number;
 use quantity::BarometerUnit;
+use quantity::MetresPerSecond;
 
 // The most points that a certificate can have.
 pub const POINTS: usize = 16;
+
+// The most points that the certificate of an anemometer can have.
+pub const RATES: usize = 20;
 
 // The height of the barometer, in tenths of a metre.
 #[repr(C)]
@@ -40,6 +44,24 @@ pub struct Point {
     pub correction: Correction,
 }
 
+// The rate of an anemometer's dial, in divisions a second.
+#[repr(C)]
+pub struct Rate(pub Kept);
+
+// A point of an anemometer's certificate: a rate, and its speed in tenths of m/s.
+#[repr(C)]
+pub struct RatePoint {
+    pub rate: Rate,
+    pub speed: Kept,
+}
+
+// The hand anemometer: of the points the first `count` are its certificate. With none the store has no anemometer.
+#[repr(C)]
+pub struct Anemometer {
+    pub count: u32,
+    pub points: [RatePoint; RATES],
+}
+
 // The settings of a store, right or wrong. Of the points the first `count` are the certificate.
 pub struct Settings {
     pub unit: BarometerUnit,
@@ -49,6 +71,7 @@ pub struct Settings {
     pub psychrometer: PsychrometerCoefficient,
     pub count: u32,
     pub points: [Point; POINTS],
+    pub anemometer: Anemometer,
 }
 
 // What settings come to.
@@ -59,6 +82,8 @@ pub enum Checked {
     OutsideLimits,
     // 10
     CertificateBroken,
+    // 25
+    AnemometerBroken,
 }
 
 // Document 01's number of what settings come to, or 0 for good ones.
@@ -69,6 +94,7 @@ pub fn number(c: Checked) -> u32
         Checked::Good => 0,
         Checked::OutsideLimits => 9,
         Checked::CertificateBroken => 10,
+        Checked::AnemometerBroken => 25,
     }
 }
 
@@ -136,6 +162,21 @@ impl Correction {
         n.within(Self::LOW, Self::HIGH)
     }
 }
+
+impl Rate {
+    pub const LOW: Number = Number { v: 0 };
+
+    pub const HIGH: Number = Number { v: 9999 };
+
+    // Whether n is a rate of an anemometer's certificate.
+    pub fn holds(n: Number) -> bool
+        ensures { λ r. ⌜ r ≡ inside rate (n .v) ⌝ }
+    {
+        n.within(Self::LOW, Self::HIGH)
+    }
+}
+
+// ---- the barometer's certificate
 
 fn point_holds(unit: BarometerUnit, p: Point) -> bool
     ensures { λ r. ⌜ r ≡ pointHolds unit p ⌝ }
@@ -207,6 +248,88 @@ fn certificate_holds(unit: BarometerUnit, count: u32, points: [Point; POINTS]) -
     false
 }
 
+// ---- the anemometer's
+
+fn rate_point_holds(p: RatePoint) -> bool
+    ensures { λ r. ⌜ r ≡ ratePointHolds p ⌝ }
+{
+    let rate = p.rate.0;
+    let speed = p.speed;
+    if Rate::holds(rate.number()) {
+        return MetresPerSecond::holds(speed.number());
+    }
+    false
+}
+
+// Whether both rate and speed rise from one point to the next.
+fn rates_rise(p: RatePoint, q: RatePoint) -> bool
+    ensures { λ r. ⌜ r ≡ ratesRise p q ⌝ }
+{
+    let a = p.rate.0;
+    let b = q.rate.0;
+    if b.number().at_most(a.number()) {
+        return false;
+    }
+    let v = p.speed;
+    let w = q.speed;
+    !w.number().at_most(v.number())
+}
+
+// Whether each of the first n points lies within its limits.
+fn rate_points_hold(points: [RatePoint; RATES], n: usize) -> bool
+    requires { ⌜ n ≤ 20 ⌝ }
+    ensures { λ r. ⌜ r ≡ every (λ i. ratePointHolds (ratePointAt points i)) 0 n ⌝ }
+{
+    let mut i: usize = 0;
+    while i < n {
+        let p = points[i];
+        if !rate_point_holds(p) {
+            return false;
+        }
+        i += 1;
+    }
+    true
+}
+
+// Whether the first n points rise.
+fn rate_points_rise(points: [RatePoint; RATES], n: usize) -> bool
+    requires { ⌜ n ≤ 20 ⌝ }
+    ensures { λ r. ⌜ r ≡ every (λ i. ratesRise (ratePointAt points i) (ratePointAt points (i + 1))) 0 (n - 1) ⌝ }
+{
+    let mut i: usize = 0;
+    while i + 1 < n {
+        let j = i + 1;
+        let p = points[i];
+        let q = points[j];
+        if !rates_rise(p, q) {
+            return false;
+        }
+        i += 1;
+    }
+    true
+}
+
+fn anemometer_holds(count: u32, points: [RatePoint; RATES]) -> bool
+    ensures { λ r. ⌜ r ≡ anemometerHolds count points ⌝ }
+{
+    if count == 0 {
+        return true;
+    }
+    if count < 2 {
+        return false;
+    }
+    if count > 20 {
+        return false;
+    }
+    let n = count as usize;
+    if rate_points_hold(points, n) {
+        return rate_points_rise(points, n);
+    }
+    false
+}
+
+// ---- the settings
+
 fn others_hold(h: Kept, d: Kept, k: Kept, a: Kept) -> bool
     ensures { λ r. ⌜ r ≡ othersHold (h .v) (d .v) (k .v) (a .v) ⌝ }
 {
@@ -222,7 +345,7 @@ fn others_hold(h: Kept, d: Kept, k: Kept, a: Kept) -> bool
     PsychrometerCoefficient::holds(a.number())
 }
 
-// Whether a store opens with these settings, or the first of refusals 9 and 10 that holds.
+// Whether a store opens with these settings, or the first of refusals 9, 10 and 25 that holds.
 pub fn check(settings: Settings) -> Checked
     ensures { λ r. ⌜ checkedAs r ≡ checked settings ⌝ }
 {
@@ -237,6 +360,11 @@ pub fn check(settings: Settings) -> Checked
     let points = settings.points;
     if !certificate_holds(unit, settings.count, points) {
         return Checked::CertificateBroken;
+    }
+    let anemometer = settings.anemometer;
+    let rates = anemometer.points;
+    if !anemometer_holds(anemometer.count, rates) {
+        return Checked::AnemometerBroken;
     }
     Checked::Good
 }

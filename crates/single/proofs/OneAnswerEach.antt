@@ -55,6 +55,7 @@ use Rattle.settings.proofs.SeaLevelDifference.holds.Reads as settings-SeaLevelD
 use Rattle.settings.proofs.TemperatureCoefficient.holds.Reads as settings-TemperatureCoefficient-holds
 use Rattle.settings.proofs.PsychrometerCoefficient.holds.Reads as settings-PsychrometerCoefficient-holds
 use Rattle.settings.proofs.Correction.holds.Reads as settings-Correction-holds
+use Rattle.settings.proofs.Rate.holds.Reads as settings-Rate-holds
 use Rattle.settings.proofs.check.Reads as settings-check
 use Rattle.settings.proofs.number.Reads as settings-number
 use Rattle.window.proofs.SingleAnswers as window
@@ -67,6 +68,8 @@ use Rattle.cell.proofs.biased.Reads as cell-biased
 use Rattle.cell.proofs.unbiased.Reads as cell-unbiased
 use Rattle.cell.proofs.cell_of.Reads as cell-cell-of
 use Rattle.cell.proofs.reading_in.Reads as cell-reading-in
+use Rattle.certificate.proofs.SingleAnswers as certificate
+use Rattle.certificate.proofs.value_at.Reads as certificate-value-at
 use Rattle.block.proofs.SingleAnswers as block
 use Rattle.block.proofs.lay.Reads as block-lay
 use Rattle.block.proofs.is_store.Reads as block-is-store
@@ -77,9 +80,16 @@ use Rattle.block.proofs.coefficient.Reads as block-coefficient
 use Rattle.block.proofs.psychrometer.Reads as block-psychrometer
 use Rattle.block.proofs.points.Reads as block-points
 use Rattle.block.proofs.point.Reads as block-point
+use Rattle.block.proofs.rates.Reads as block-rates
+use Rattle.block.proofs.rate.Reads as block-rate
+use Rattle.anemometer.proofs.SingleAnswers as anemometer
+use Rattle.anemometer.proofs.Note.holds.Reads as anemometer-Note-holds
+use Rattle.anemometer.proofs.measure.Reads as anemometer-measure
+use Rattle.anemometer.proofs.from_bow.Reads as anemometer-from-bow
 use Rattle.store.proofs.SingleAnswers as store
 use Rattle.store.proofs.«open».Reads as store-open
 use Rattle.store.proofs.hear.Reads as store-hear
+use Rattle.store.proofs.note.Reads as store-note
 use Rattle.store.proofs.recall.Reads as store-recall
 use Rattle.store.proofs.missing_minutes.Reads as store-missing-minutes
 use Rattle.store.proofs.number.Reads as store-number
@@ -109,6 +119,7 @@ use Rattle.humidity.proofs.humidity.Reads as humidity-humidity
 use Rattle.station.proofs.SingleAnswers as station
 use Rattle.station.proofs.«open».Reads as station-open
 use Rattle.station.proofs.hear.Reads as station-hear
+use Rattle.station.proofs.note.Reads as station-note
 use Rattle.station.proofs.pressure.Reads as station-pressure
 use Rattle.station.proofs.tendency.Reads as station-tendency
 use Rattle.station.proofs.wind.Reads as station-wind
@@ -164,6 +175,7 @@ use Rattle.answer.proofs.SingleAnswers as answer
 use Rattle.answer.proofs.put_line.Reads as answer-put-line
 use Rattle.answer.proofs.put_opening.Reads as answer-put-opening
 use Rattle.answer.proofs.put_hearing.Reads as answer-put-hearing
+use Rattle.answer.proofs.put_noting.Reads as answer-put-noting
 use Rattle.answer.proofs.put_pressure.Reads as answer-put-pressure
 use Rattle.answer.proofs.put_tendency.Reads as answer-put-tendency
 use Rattle.answer.proofs.put_wind.Reads as answer-put-wind
@@ -191,6 +203,7 @@ use Rattle.notice.proofs.put_counts.Reads as notice-put-counts
 use Rattle.told.proofs.SingleAnswers as told
 use Rattle.told.proofs.settings_of.Reads as told-settings-of
 use Rattle.told.proofs.hearing_told.Reads as told-hearing-told
+use Rattle.told.proofs.noting_told.Reads as told-noting-told
 use Rattle.told.proofs.pressure_told.Reads as told-pressure-told
 use Rattle.told.proofs.tendency_told.Reads as told-tendency-told
 use Rattle.told.proofs.wind_told.Reads as told-wind-told
@@ -202,6 +215,7 @@ use Rattle.filed.proofs.listed_told.Reads as filed-listed-told
 use Rattle.zhitomrak.proofs.SingleAnswers as zhitomrak
 use Rattle.zhitomrak.proofs.zhitomrak_open.Reads as zhitomrak-zhitomrak-open
 use Rattle.zhitomrak.proofs.zhitomrak_hear.Reads as zhitomrak-zhitomrak-hear
+use Rattle.zhitomrak.proofs.zhitomrak_note.Reads as zhitomrak-zhitomrak-note
 use Rattle.zhitomrak.proofs.zhitomrak_pressure.Reads as zhitomrak-zhitomrak-pressure
 use Rattle.zhitomrak.proofs.zhitomrak_tendency.Reads as zhitomrak-zhitomrak-tendency
 use Rattle.zhitomrak.proofs.zhitomrak_wind.Reads as zhitomrak-zhitomrak-wind
@@ -265,6 +279,7 @@ pub record OneAnswerEach : Type 0 where
   pub settings-TemperatureCoefficient-holds-single : Single settings-TemperatureCoefficient-holds.Post
   pub settings-PsychrometerCoefficient-holds-single : Single settings-PsychrometerCoefficient-holds.Post
   pub settings-Correction-holds-single : Single settings-Correction-holds.Post
+  pub settings-Rate-holds-single : Single settings-Rate-holds.Post
   pub settings-check-single : Single settings-check.Post
   pub settings-number-single : Single settings-number.Post
   -- window
@@ -278,6 +293,8 @@ pub record OneAnswerEach : Type 0 where
   pub cell-unbiased-single : Single cell-unbiased.Post
   pub cell-cell-of-single : Single cell-cell-of.Post
   pub cell-reading-in-single : Single cell-reading-in.Post
+  -- certificate
+  pub certificate-value-at-single : Single certificate-value-at.Post
   -- block
   pub block-lay-single : Single block-lay.Post
   pub block-lay-left : SingleLeft block-lay.Post (λ κs s. s .0 .now)
@@ -289,11 +306,21 @@ pub record OneAnswerEach : Type 0 where
   pub block-psychrometer-single : Single block-psychrometer.Post
   pub block-points-single : Single block-points.Post
   pub block-point-single : Single block-point.Post
+  pub block-certificate-single : block.SingleCertificate
+  pub block-rates-single : Single block-rates.Post
+  pub block-rate-single : Single block-rate.Post
+  pub block-anemometer-single : block.SingleAnemometer
+  -- anemometer
+  pub anemometer-Note-holds-single : Single anemometer-Note-holds.Post
+  pub anemometer-measure-single : Single anemometer-measure.Post
+  pub anemometer-from-bow-single : Single anemometer-from-bow.Post
   -- store
   pub store-open-single : Single store-open.Post
   pub store-open-left : SingleLeft store-open.Post (λ κs s. s .0 .now)
   pub store-hear-single : Single store-hear.Post
   pub store-hear-left : SingleLeft store-hear.Post (λ κs s. s .0 .now)
+  pub store-note-single : Single store-note.Post
+  pub store-note-left : SingleLeft store-note.Post (λ κs s. s .0 .now)
   pub store-recall-single : Single store-recall.Post
   pub store-missing-minutes-single : Single store-missing-minutes.Post
   pub store-number-single : Single store-number.Post
@@ -325,6 +352,8 @@ pub record OneAnswerEach : Type 0 where
   pub station-open-left : SingleLeft station-open.Post (λ κs s. s .0 .now)
   pub station-hear-single : Single station-hear.Post
   pub station-hear-left : SingleLeft station-hear.Post (λ κs s. s .0 .now)
+  pub station-note-single : Single station-note.Post
+  pub station-note-left : SingleLeft station-note.Post (λ κs s. s .0 .now)
   pub station-pressure-single : Single station-pressure.Post
   pub station-tendency-single : Single station-tendency.Post
   pub station-wind-single : Single station-wind.Post
@@ -395,6 +424,8 @@ pub record OneAnswerEach : Type 0 where
   pub answer-put-opening-left : SingleLeft answer-put-opening.Post (λ κs s. s .0 .now)
   pub answer-put-hearing-single : Single answer-put-hearing.Post
   pub answer-put-hearing-left : SingleLeft answer-put-hearing.Post (λ κs s. s .0 .now)
+  pub answer-put-noting-single : Single answer-put-noting.Post
+  pub answer-put-noting-left : SingleLeft answer-put-noting.Post (λ κs s. s .0 .now)
   pub answer-put-pressure-single : Single answer-put-pressure.Post
   pub answer-put-pressure-left : SingleLeft answer-put-pressure.Post (λ κs s. s .0 .now)
   pub answer-put-tendency-single : Single answer-put-tendency.Post
@@ -434,6 +465,7 @@ pub record OneAnswerEach : Type 0 where
   -- told
   pub told-settings-of-single : Single told-settings-of.Post
   pub told-hearing-told-single : Single told-hearing-told.Post
+  pub told-noting-told-single : Single told-noting-told.Post
   pub told-pressure-told-single : Single told-pressure-told.Post
   pub told-tendency-told-single : Single told-tendency-told.Post
   pub told-wind-told-single : Single told-wind-told.Post
@@ -447,6 +479,8 @@ pub record OneAnswerEach : Type 0 where
   pub zhitomrak-zhitomrak-open-left : SingleLeft zhitomrak-zhitomrak-open.Post (λ κs s. s .0 .now)
   pub zhitomrak-zhitomrak-hear-single : Single zhitomrak-zhitomrak-hear.Post
   pub zhitomrak-zhitomrak-hear-left : SingleLeft zhitomrak-zhitomrak-hear.Post (λ κs s. s .0 .now)
+  pub zhitomrak-zhitomrak-note-single : Single zhitomrak-zhitomrak-note.Post
+  pub zhitomrak-zhitomrak-note-left : SingleLeft zhitomrak-zhitomrak-note.Post (λ κs s. s .0 .now)
   pub zhitomrak-zhitomrak-pressure-single : Single zhitomrak-zhitomrak-pressure.Post
   pub zhitomrak-zhitomrak-tendency-single : Single zhitomrak-zhitomrak-tendency.Post
   pub zhitomrak-zhitomrak-wind-single : Single zhitomrak-zhitomrak-wind.Post
@@ -509,6 +543,7 @@ one-answer-each =
       settings-TemperatureCoefficient-holds-single = settings.single-coefficient;
       settings-PsychrometerCoefficient-holds-single = settings.single-psychrometer;
       settings-Correction-holds-single = settings.single-correction;
+      settings-Rate-holds-single = settings.single-rate;
       settings-check-single = settings.single-check;
       settings-number-single = settings.single-number;
       window-next-single = window.single-next;
@@ -520,6 +555,7 @@ one-answer-each =
       cell-unbiased-single = cell.single-unbiased;
       cell-cell-of-single = cell.single-cell-of;
       cell-reading-in-single = cell.single-reading-in;
+      certificate-value-at-single = certificate.single-value-at;
       block-lay-single = block.single-lay;
       block-lay-left = block.single-lay-left;
       block-is-store-single = block.single-is-store;
@@ -530,10 +566,19 @@ one-answer-each =
       block-psychrometer-single = block.single-psychrometer;
       block-points-single = block.single-points;
       block-point-single = block.single-point;
+      block-certificate-single = block.single-certificate;
+      block-rates-single = block.single-rates;
+      block-rate-single = block.single-rate;
+      block-anemometer-single = block.single-anemometer;
+      anemometer-Note-holds-single = anemometer.single-holds;
+      anemometer-measure-single = anemometer.single-measure;
+      anemometer-from-bow-single = anemometer.single-from-bow;
       store-open-single = store.single-open;
       store-open-left = store.single-open-left;
       store-hear-single = store.single-hear;
       store-hear-left = store.single-hear-left;
+      store-note-single = store.single-note;
+      store-note-left = store.single-note-left;
       store-recall-single = store.single-recall;
       store-missing-minutes-single = store.single-missing-minutes;
       store-number-single = store.single-number;
@@ -558,6 +603,8 @@ one-answer-each =
       station-open-left = station.single-open-left;
       station-hear-single = station.single-hear;
       station-hear-left = station.single-hear-left;
+      station-note-single = station.single-note;
+      station-note-left = station.single-note-left;
       station-pressure-single = station.single-pressure;
       station-tendency-single = station.single-tendency;
       station-wind-single = station.single-wind-answer;
@@ -620,6 +667,8 @@ one-answer-each =
       answer-put-opening-left = answer.single-put-opening-text;
       answer-put-hearing-single = answer.single-put-hearing;
       answer-put-hearing-left = answer.single-put-hearing-text;
+      answer-put-noting-single = answer.single-put-noting;
+      answer-put-noting-left = answer.single-put-noting-text;
       answer-put-pressure-single = answer.single-put-pressure;
       answer-put-pressure-left = answer.single-put-pressure-text;
       answer-put-tendency-single = answer.single-put-tendency;
@@ -653,6 +702,7 @@ one-answer-each =
       notice-put-counts-left = notice.single-put-counts-text;
       told-settings-of-single = told.single-settings-of;
       told-hearing-told-single = told.single-hearing-told;
+      told-noting-told-single = told.single-noting-told;
       told-pressure-told-single = told.single-pressure-told;
       told-tendency-told-single = told.single-tendency-told;
       told-wind-told-single = told.single-wind-told;
@@ -664,6 +714,8 @@ one-answer-each =
       zhitomrak-zhitomrak-open-left = zhitomrak.single-open-left;
       zhitomrak-zhitomrak-hear-single = zhitomrak.single-hear;
       zhitomrak-zhitomrak-hear-left = zhitomrak.single-hear-left;
+      zhitomrak-zhitomrak-note-single = zhitomrak.single-note;
+      zhitomrak-zhitomrak-note-left = zhitomrak.single-note-left;
       zhitomrak-zhitomrak-pressure-single = zhitomrak.single-pressure;
       zhitomrak-zhitomrak-tendency-single = zhitomrak.single-tendency;
       zhitomrak-zhitomrak-wind-single = zhitomrak.single-wind;

@@ -14,8 +14,8 @@ use Rattle.number.specs.Refusal.{Numbered, numbered, Test, Answer, refused, giv
 use Rattle.number.proofs.Sizes.{impossible, within-size}
 use Rattle.quantity.specs.Limits.{inside, wheelhouse}
 use Rattle.message.specs.Receive.{Figure}
+use Rattle.cell.specs.Cells.{isPresent}
 use Rattle.block.specs.Words.{unitOf}
-use Rattle.store.specs.History.{isPresent}
 use Rattle.message.proofs.Keep.{pressure-size}
 use Rattle.pressure.specs.Pressure.{Barometer, inUnit, tenthsIn, outside, seaLevel, seaLevelAnswer, stationPressure, stationAnswer, pressureAs}
 use Rattle.pressure.specs.declared.WorkedPressure.{WorkedPressure}

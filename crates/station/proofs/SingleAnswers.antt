@@ -1,4 +1,4 @@
--- Each public contract of this crate allows a single answer, and `open` and `hear` a single block to be left: the tests are the same,
+-- Each public contract of this crate allows a single answer, and `open`, `hear` and `note` a single block to be left: the tests are the same,
 -- a refusal is told by its number and extras, and each rule allows one figure. Assumes nothing.
 use mathlib.Core.Path.{_≡_, refl, sym, ap, _∙_}
 use mathlib.Core.Bool.{cond}
@@ -40,13 +40,14 @@ use Rattle.station.specs.declared.HumidityAnswer.the-variants as moist
 use Rattle.station.proofs.AnswerLaws.{one-answer}
 use Rattle.station.proofs.«open».Reads as opening
 use Rattle.station.proofs.hear.Reads as hear
+use Rattle.station.proofs.note.Reads as note
 use Rattle.station.proofs.number.Reads as number
 use Rattle.station.proofs.pressure.Reads as pressure
 use Rattle.station.proofs.tendency.Reads as tendency
 use Rattle.station.proofs.wind.Reads as wind
 use Rattle.station.proofs.humidity.Reads as humidity
 
--- ---- open and hear
+-- ---- open, hear and note
 
 pub single-open : Single opening.Post
 single-open κs a r r′ s s′ p q = sym (case-back r) ∙ ap case-of (p .0 ∙ sym (q .0)) ∙ case-back r′
@@ -59,6 +60,12 @@ single-hear κs a r r′ s s′ p q = sym (hearing-back r) ∙ ap hearing-of (p 
 
 pub single-hear-left : SingleLeft hear.Post (λ κs s. s .0 .now)
 single-hear-left κs a r r′ s s′ p q = p .block ∙ sym (q .block)
+
+pub single-note : Single note.Post
+single-note κs a r r′ s s′ p q = sym (hearing-back r) ∙ ap hearing-of (p .answer ∙ sym (q .answer)) ∙ hearing-back r′
+
+pub single-note-left : SingleLeft note.Post (λ κs s. s .0 .now)
+single-note-left κs a r r′ s s′ p q = p .block ∙ sym (q .block)
 
 -- ---- a refusal is told by its number and extras
 

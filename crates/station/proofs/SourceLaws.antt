@@ -11,12 +11,11 @@ use Rattle.number.proofs.Sizes.{both}
 use Rattle.number.specs.Refusal.{test}
 use Rattle.quantity.specs.Limits.{threeHours}
 use Rattle.quantity.specs.declared.BarometerUnit.{BarometerUnit}
-use Rattle.cell.specs.Cells.{Recall}
-use Rattle.store.specs.History.{isPresent}
+use Rattle.cell.specs.Cells.{Recall, isPresent, first}
 use Rattle.pressure.specs.Pressure.{outside, seaLevel, stationPressure, tenthsIn}
 use Rattle.pressure.proofs.PressureTheorems.{Alike, alike-outside, alike-sea-level, alike-station}
 use Rattle.vapour.specs.Vapour.{Tables}
-use Rattle.station.specs.Source.{Source, first, inCelsius, readingAt}
+use Rattle.station.specs.Source.{Source, inCelsius, readingAt}
 use Rattle.station.specs.Questions.{Asked, question, Reply, isIn, reads, Answers, Tells, tooLate, noThreeHours, missingAt, outsideAt, seaLevelAt, stationAt, pressureTests, PressureRule, tendencyTests, TendencyRule, windTests, WindRule, humidityTests, HumidityRule}
 use Rattle.station.specs.Questions as asked
 use Rattle.station.specs.Told.{Change, pressureAs, tendencyAs, windAs, humidityAs}

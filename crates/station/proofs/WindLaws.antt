@@ -5,11 +5,11 @@ use mathlib.Core.List.{List}
 use Prim.Native.Nat.{ℕ}
 use lib.Dec.{lit<}
 use Rattle.number.proofs.Sizes.{both}
+use Rattle.cell.specs.Cells.{isPresent, inDegrees}
 use Rattle.store.specs.Block.{recallOf}
-use Rattle.store.specs.History.{isPresent}
 use Rattle.wind.specs.Answer.{withinLimits, IsWind}
 use Rattle.wind.specs.declared.TrueWind.{TrueWind}
-use Rattle.station.specs.Source.{inMetresPerSecond, inKnots, inDegrees}
+use Rattle.station.specs.Source.{inMetresPerSecond, inKnots}
 use Rattle.station.proofs.KeptLaws.{first-inside, second-inside}
 
 pub kept-within : (s : List ℕ) (m : ℕ) → isPresent (recallOf s 2 m) ≡ true → isPresent (recallOf s 3 m) ≡ true

@@ -5,14 +5,13 @@ use mathlib.Core.List.{[], _∷_}
 use Prim.Native.Nat.{ℕ}
 use lib.IntN.{ℤ}
 use Rattle.number.specs.Refusal.{Numbered, numbered, Answer, refused, given}
-use Rattle.cell.specs.Cells.{Recall}
-use Rattle.store.specs.History.{isPresent}
+use Rattle.cell.specs.Cells.{Recall, isPresent, first}
 use Rattle.pressure.specs.Pressure.{readingAs}
 use Rattle.station.specs.declared.Shown.{Shown}
 use Rattle.station.specs.declared.Shown.the-variants as shown
 use Rattle.station.specs.declared.AtMinute.{AtMinute}
 use Rattle.station.specs.declared.AtMinute.the-variants.{NotKept, Outside, SeaLevel}
-use Rattle.station.specs.Source.{Source, first}
+use Rattle.station.specs.Source.{Source}
 use Rattle.station.specs.Questions.{Answers, missingAt, outsideAt, PressureRule}
 
 -- what the barometer shows of what is kept

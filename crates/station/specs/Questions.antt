@@ -9,15 +9,15 @@ use Rattle.number.specs.Refusal.{Numbered, Test, test, plain, Answer, refused, 
 use Rattle.quantity.specs.Limits.{lastMinute, threeHours, inside, recordedPressure}
 use Rattle.quantity.specs.declared.BulbState.{BulbState}
 use Rattle.settings.specs.Settings as settings
+use Rattle.cell.specs.Cells.{isPresent, inDegrees}
 use Rattle.store.specs.Block.{noStore}
-use Rattle.store.specs.History.{isPresent}
 use Rattle.pressure.specs.Pressure.{outside, seaLevel, stationPressure}
 use Rattle.vapour.specs.Vapour.{Tables, AreTables}
 use Rattle.wind.specs.Answer.{IsWind}
 use Rattle.wind.specs.declared.TrueWind.{TrueWind}
 use Rattle.humidity.specs.Humidity.{vapourPressure, moistureTests, IsHumidity}
 use Rattle.humidity.specs.declared.HumidityFigures.{HumidityFigures}
-use Rattle.station.specs.Source.{Source, held, inCelsius, inMetresPerSecond, inKnots, inDegrees, stateIn, readingAt}
+use Rattle.station.specs.Source.{Source, held, inCelsius, inMetresPerSecond, inKnots, stateIn, readingAt}
 use Rattle.station.specs.Told.{Change, pressureAs, tendencyAs, windAs, humidityAs}
 use Rattle.station.specs.declared.PressureAnswer.{PressureAnswer}
 use Rattle.station.specs.declared.TendencyAnswer.{TendencyAnswer}

@@ -4,13 +4,13 @@ use Prim.Native.Nat.{ℕ}
 use lib.IntN.{ℤ, pos, natAbs}
 use Rattle.quantity.specs.Limits.{minutesBetween}
 use Rattle.quantity.specs.declared.BulbState.{BulbState}
-use Rattle.message.specs.Receive.{Figure, none, byUnit, itself, nought, onWick}
+use Rattle.message.specs.Receive.{byUnit, itself, nought, onWick}
 use Rattle.settings.specs.declared.Settings.{Settings}
 use Rattle.window.specs.Window.{absents}
-use Rattle.cell.specs.Cells.{Recall, absent, recalled}
+use Rattle.cell.specs.Cells.{Recall, isPresent, first, second}
 use Rattle.block.specs.Words.{settingOf}
 use Rattle.store.specs.Block.{recallOf, absentOf}
-use Rattle.store.specs.History.{history, remembered, isPresent}
+use Rattle.store.specs.History.{Sent, remembered, history}
 use Rattle.pressure.specs.Pressure.{Barometer, barometerIn, barometerOf, tenthsIn}
 
 -- The barometer and its certificate, A, what is kept of a channel's minute, and how many of the 179 minutes before a minute have
@@ -21,14 +21,14 @@ pub record Source : Type 0 where
   pub recall : ℕ → ℕ → Recall
   pub missing : ℕ → ℕ
 
--- The paper's meaning: settings, and all messages heard, the newest first, the refused ones among them.
-abbrev pub heard : Settings → List (List ℕ) → Source
+-- The paper's meaning: settings, and all messages and entries heard, the newest first, the refused ones among them.
+abbrev pub heard : Settings → List Sent → Source
 heard g M =
     record {
       barometer = barometerIn g;
       psychrometer = g .psychrometer .0 .v;
-      recall = λ c m. remembered (history (g .unit) c M) m;
-      missing = λ m. absents (λ j. isPresent (remembered (history (g .unit) 0 M) j)) m minutesBetween;
+      recall = λ c m. remembered (history g c M) m;
+      missing = λ m. absents (λ j. isPresent (remembered (history g 0 M) j)) m minutesBetween;
     }
 
 -- A block's words, whatever they are.
@@ -43,18 +43,9 @@ held s =
 
 -- ---- what is kept of a channel's minute, in a unit
 
--- Its figures: an absent reading has none.
-abbrev pub first : Recall → Figure
-first absent = none
-first (recalled e) = e .first
-
-abbrev pub second : Recall → Figure
-second absent = none
-second (recalled e) = e .second
-
 -- "Knots and metres per second, and millimetres of mercury and hectopascals, are kept apart until a formula joins them." A formula
--- asks for its unit: tenths of °C, of m/s and of a knot, and whole degrees. A figure that has another unit is 0 to it, and no answer
--- is worked from that.
+-- asks for its unit: tenths of °C, of m/s and of a knot, and whole degrees (`inDegrees`). A figure that has another unit is 0 to it, and
+-- no answer is worked from that.
 abbrev pub inCelsius : Recall → ℤ
 inCelsius x = byUnit nought nought itself nought nought nought (pos 0) (first x)
 
@@ -63,9 +54,6 @@ inMetresPerSecond x = natAbs (byUnit nought nought nought itself nought nought (
 
 abbrev pub inKnots : Recall → ℕ
 inKnots x = natAbs (byUnit nought nought nought nought itself nought (pos 0) (first x))
-
-abbrev pub inDegrees : Recall → ℕ
-inDegrees x = natAbs (byUnit nought nought nought nought nought itself (pos 0) (second x))
 
 -- What is on the wick of the wet bulb.
 abbrev pub stateIn : Recall → BulbState

@@ -1,13 +1,15 @@
-// What a ship calls: a store is opened, hears messages, and is asked for pressure, tendency, true wind and humidity.
+// What a ship calls: a store is opened, hears messages and entries of the hand anemometer, and is asked for pressure, tendency, true wind and humidity.
 // Any block, any bytes, any minute gets an answer, a block that is no store that it is none; asking changes nothing.
 ghost use mathlib.Core.Path.{_≡_};
 ghost use Rattle.settings.specs.Settings.{checked, checkedAs};
 ghost use Rattle.store.specs.Block.{openedBy, recallOf, Hears};
+ghost use Rattle.store.specs.Noting.{Notes};
 ghost use Rattle.station.specs.Source.{held};
 ghost use Rattle.station.specs.Questions.{TellsOf};
 ghost use Rattle.station.specs.Questions as asked;
 ghost use Rattle.station.specs.Told.{refusalOf, numberedAs};
 ghost use Rattle.station.specs.Parts.{Shows, TellsAt};
+use anemometer::Note;
 use block::NO_STORE;
 use block::Store;
 use cell::Recalled;
@@ -96,7 +98,7 @@ enum AtMinute {
 
 // ---- opening and hearing
 
-// Opens a store: the block starts empty with these settings, or the first of refusals 9 and 10 that holds leaves it as it was.
+// Opens a store: the block starts empty with these settings, or the first of refusals 9, 10 and 25 that holds leaves it as it was.
 pub fn open(store: &mut Store, settings: Settings) -> Checked
     ensures { λ r. ⌜ (checkedAs r ≡ checked settings) × (now (store .exit) ≡ openedBy (now (store .entry)) settings) ⌝ }
 {
@@ -109,6 +111,14 @@ pub fn hear(store: &mut Store, message: &[u8]) -> Hearing
     ensures { λ r. ⌜ Hears (now (store .entry)) (now (store .exit)) (now (message .entry)) r ⌝ }
 {
     store::hear(store, message)
+}
+
+// Hears an entry of the hand anemometer: it is kept as a reading of channel 2, or the first of refusals 5, 7, 8, 19, 23, 11 and 24 that
+// holds leaves the block as it was. A block that is no store hears nothing.
+pub fn note(store: &mut Store, n: Note) -> Hearing
+    ensures { λ r. ⌜ Notes (now (store .entry)) (now (store .exit)) n r ⌝ }
+{
+    store::note(store, n)
 }
 
 // ---- refusals

@@ -1,5 +1,5 @@
--- The block holds what the messages mean: an opened block remembers nothing, and with each message heard it remembers what the
--- longer list of messages means. Channel by channel: what a window means (Means) goes on by the laws of an accepted value, and the
+-- The block holds what was heard means: an opened block remembers nothing, and with each message or entry it remembers what the
+-- longer list means. Channel by channel: what a window means (Means) goes on by the laws of an accepted value, and the
 -- other windows stay. Assumes nothing.
 use mathlib.Core.Path.{_≡_, refl, sym, ap, _∙_, subst}
 use mathlib.Core.Bool.{Bool, true, false, _&&_, cond}
@@ -11,7 +11,7 @@ use lib.Dec.{eqb, leb, lit<}
 use lib.ListN.{getD, take, length}
 use lib.Seq.{getD-take}
 use borrow.Author.Tests.{leb-true, leb-false, eqb-true, lt-ltb, le-leb, lt-leb, eq-eqb, ne-eqb}
-use Rattle.number.specs.Refusal.{numbered, Answer, refused, given, answer}
+use Rattle.number.specs.Refusal.{Numbered, numbered, Answer, refused, given, answer}
 use Rattle.quantity.specs.declared.BarometerUnit.{BarometerUnit}
 use Rattle.message.specs.Receive.{Entry, received}
 use Rattle.settings.specs.Settings.{checked}
@@ -23,17 +23,21 @@ use Rattle.window.specs.declared.Found.{Found}
 use Rattle.window.specs.declared.Found.the-variants.{Absent, Cell}
 use Rattle.window.proofs.PresentLaws.{present-late}
 use Rattle.window.proofs.KeptLaws.{absent-kept, length-after, next-after, present-after, kept-after}
-use Rattle.cell.specs.Cells.{CHANNELS}
+use Rattle.cell.specs.Cells.{CHANNELS, isPresent}
 use Rattle.block.specs.Layout.{SETTINGS, WORDS}
 use Rattle.cell.specs.Cells.{cellOf, entryIn}
 use Rattle.block.specs.Words.{opened, isStore, unitOf, windowOf}
-use Rattle.store.specs.Block.{entryOfBytes, newestTests, hearTests, hearing, kept, heardBy, recallIn, recallOf}
+use Rattle.anemometer.specs.declared.Note.{Note}
+use Rattle.store.specs.Block.{windChannel, courseChannel, entryOfBytes, newestTests, hearTests, hearing, kept, heardBy, recallIn, recallOf}
 use Rattle.cell.specs.Cells.{Recall, absent, recalled}
-use Rattle.store.specs.History.{nextOf, grown, history, lookup, remembered, isPresent, Remembers, store-of}
+use Rattle.store.specs.Noting.{notedBy}
+use Rattle.store.specs.History.{Sent, bytes, note, nextOf, lookup, remembered, entered, added, grown, history, Remembers, store-of}
 use Rattle.cell.proofs.CellLaws.{Back, received-back}
 use Rattle.block.proofs.BlockLaws.{window-long, replaced-long, here, beside, settings-stay}
 use Rattle.block.proofs.OpenedLaws.{opened-long, opened-is-store, opened-unit, opened-next}
 use Rattle.store.proofs.NewestLaws.{later, not-later}
+use Rattle.store.proofs.NotingLaws.{noted-refused, noted-given}
+use Rattle.store.proofs.EntryLaws.{by-history, taken}
 use Rattle.store.proofs.HearingLaws.{store-hears, hearing-refused, hearing-given, heard-refused, heard-given}
 
 -- ---- histories
@@ -69,23 +73,28 @@ remembered-step e H j n = go (ℕ-discrete j (e .minute)) (decLt (e .minute) (j 
         rw (ne-eqb j (e .minute) p, lt-leb (suc (e .minute)) (j + MINUTES) (omega arith)) (remembered-gone (e ∷ H) j (omega arith))
 
 -- what a channel's history grows by
-pub grown-other : (c : ℕ) (H : List Entry) (e : Entry) → (e .channel ≡ c → ⊥) → grown c H (given e) ≡ H
+pub grown-other : (c : ℕ) (H : List Entry) (e : Entry) → (e .channel ≡ c → ⊥) → added c H e ≡ H
 grown-other c H e ne = rw (ne-eqb (e .channel) c ne)
 
-grown-early : (c : ℕ) (H : List Entry) (e : Entry) → (e .channel ≡ c → e .minute < nextOf H) → grown c H (given e) ≡ H
+grown-early : (c : ℕ) (H : List Entry) (e : Entry) → (e .channel ≡ c → e .minute < nextOf H) → added c H e ≡ H
 grown-early c H e early = go (ℕ-discrete (e .channel) c)
   where
-    go : Dec (e .channel ≡ c) → grown c H (given e) ≡ H
+    go : Dec (e .channel ≡ c) → added c H e ≡ H
     go (yes p) = rw (eq-eqb (e .channel) c p, lt-leb (nextOf H) (e .minute) (early p))
     go (no p) = grown-other c H e p
 
-grown-own : (H : List Entry) (e : Entry) → nextOf H ≤ e .minute → grown (e .channel) H (given e) ≡ e ∷ H
+grown-own : (H : List Entry) (e : Entry) → nextOf H ≤ e .minute → added (e .channel) H e ≡ e ∷ H
 grown-own H e l = rw (eq-eqb (e .channel) (e .channel) refl, le-leb (nextOf H) (e .minute) l)
 
-pub history-step : (u : BarometerUnit) (c : ℕ) (M : List (List ℕ)) (m : List ℕ) {a : Answer ℕ Entry} → received u m ≡ a
-    → history u c (m ∷ M) ≡ grown c (history u c M) a
+pub message-step : (g : Settings) (c : ℕ) (M : List Sent) (m : List ℕ) {a : Answer ℕ Entry} → received (g .unit) m ≡ a
+    → history g c (bytes m ∷ M) ≡ grown c (history g c M) a
 unfolding history
-history-step u c M m r = ap (grown c (history u c M)) r
+message-step g c M m r = ap (grown c (history g c M)) r
+
+pub entry-step : (g : Settings) (c : ℕ) (M : List Sent) (n : Note) {a : Answer Numbered Entry}
+    → entered g (history g windChannel M) (history g courseChannel M) n ≡ a → history g c (note n ∷ M) ≡ grown c (history g c M) a
+unfolding history
+entry-step g c M n r = ap (grown c (history g c M)) r
 
 -- ---- one channel
 
@@ -146,129 +155,148 @@ recall-is : (s : List ℕ) (u : BarometerUnit) (c j : ℕ) → unitOf s ≡ u �
 unfolding recallOf
 recall-is s u c j e l = rw (lt-ltb c CHANNELS l) (ap (λ (v : BarometerUnit). recallIn v c j (window.kept (windowOf c s) j)) e)
 
-means : (s : List ℕ) (u : BarometerUnit) (M : List (List ℕ)) (c : ℕ) → c < CHANNELS → Remembers s u M → Means u c (windowOf c s) (history u c M)
-means s u M c l r = record {
-  newest = r .newest c l;
-  bits = r .bits c l;
-  cells = λ j. sym (recall-is s u c j (r .unit) l) ∙ r .cells c l j;
-}
+module _ (g : Settings) where
+  means : (s : List ℕ) (M : List Sent) (c : ℕ) → c < CHANNELS → Remembers s g M → Means (g .unit) c (windowOf c s) (history g c M)
+  means s M c l r = record {
+    newest = r .newest c l;
+    bits = r .bits c l;
+    cells = λ j. sym (recall-is s (g .unit) c j (r .unit) l) ∙ r .cells c l j;
+  }
 
-remembers : (s : List ℕ) (u : BarometerUnit) (M : List (List ℕ)) → length s ≡ WORDS → isStore s ≡ true → unitOf s ≡ u
-    → ((c : ℕ) → c < CHANNELS → Means u c (windowOf c s) (history u c M)) → Remembers s u M
-remembers s u M long is unit k = record {
-  long = long;
-  is-store = is;
-  unit = unit;
-  newest = λ c l. k c l .newest;
-  bits = λ c l. k c l .bits;
-  cells = λ c l j. recall-is s u c j unit l ∙ k c l .cells j;
-}
+  first-stays : (s : List ℕ) → take SETTINGS s ≡ take SETTINGS (opened g) → getD s 0 0 ≡ getD (opened g) 0 0
+  first-stays s e = sym (getD-take SETTINGS s 0 0 (lit< tt)) ∙ ap (λ (l : List ℕ). getD l 0 0) e ∙ getD-take SETTINGS (opened g) 0 0 (lit< tt)
 
-pub opened-remembers : (g : Settings) → checked g ≡ given tt → Remembers (opened g) (g .unit) []
-unfolding history
-opened-remembers g good =
-    remembers (opened g) (g .unit) [] (opened-long g) (opened-is-store g) (opened-unit g)
-    (λ c l. means-nothing (g .unit) c (windowOf c (opened g)) (opened-next g good c l))
+  remembers : (s : List ℕ) (M : List Sent) → length s ≡ WORDS → take SETTINGS s ≡ take SETTINGS (opened g)
+      → ((c : ℕ) → c < CHANNELS → Means (g .unit) c (windowOf c s) (history g c M)) → Remembers s g M
+  remembers s M long same k =
+      let first = first-stays s same in
+      let unit : unitOf s ≡ g .unit = ap (λ (n : ℕ). unitOf (n ∷ [])) first ∙ opened-unit g in
+      record {
+        long = long;
+        is-store = ap (λ (n : ℕ). isStore (n ∷ [])) first ∙ opened-is-store g;
+        unit = unit;
+        settings = same;
+        newest = λ c l. k c l .newest;
+        bits = λ c l. k c l .bits;
+        cells = λ c l j. recall-is s (g .unit) c j unit l ∙ k c l .cells j;
+      }
 
--- a message that nothing is kept of
-unchanged : (s : List ℕ) (u : BarometerUnit) (M : List (List ℕ)) (m : List ℕ) → Remembers s u M
-    → ((c : ℕ) → history u c (m ∷ M) ≡ history u c M) → heardBy s m ≡ s → Remembers (heardBy s m) u (m ∷ M)
-unchanged s u M m r same stays =
-    subst (λ (x : List ℕ). Remembers x u (m ∷ M)) (sym stays)
-    (remembers s u (m ∷ M) (r .long) (r .is-store) (r .unit) (λ c l. subst (Means u c (windowOf c s)) (sym (same c)) (means s u M c l r)))
+  pub opened-remembers : Remembers (opened g) g []
+  unfolding history
+  opened-remembers =
+      remembers (opened g) [] (opened-long g) refl (λ c l. means-nothing (g .unit) c (windowOf c (opened g)) (opened-next g c l))
 
-first-stays : (s t : List ℕ) → take SETTINGS t ≡ take SETTINGS s → getD t 0 0 ≡ getD s 0 0
-first-stays s t e = sym (getD-take SETTINGS t 0 0 (lit< tt)) ∙ ap (λ (l : List ℕ). getD l 0 0) e ∙ getD-take SETTINGS s 0 0 (lit< tt)
+  -- ---- a message or an entry
 
--- a message that is kept
-changed : (s : List ℕ) (u : BarometerUnit) (M : List (List ℕ)) (m : List ℕ) (e : Entry) → Remembers s u M → received u m ≡ given e
-    → nextOf (history u (e .channel) M) ≤ e .minute → Remembers (kept s e) u (m ∷ M)
-changed s u M m e r g l =
-    remembers (kept s e) u (m ∷ M) (replaced-long s (e .channel) w (r .long) lc long)
-    (ap (λ (n : ℕ). isStore (n ∷ [])) first ∙ r .is-store)
-    (ap (λ (n : ℕ). unitOf (n ∷ [])) first ∙ r .unit)
-    (λ c k. go c k (ℕ-discrete c (e .channel)))
-  where
-    back : Back u e × (e .channel < CHANNELS)
-    back = received-back u m e g
+  module _ (s : List ℕ) (M : List Sent) (x : Sent) (r : Remembers s g M) where
+    -- nothing is kept of it
+    unchanged : (s′ : List ℕ) → ((c : ℕ) → history g c (x ∷ M) ≡ history g c M) → s′ ≡ s → Remembers s′ g (x ∷ M)
+    unchanged s′ same stays =
+        subst (λ (y : List ℕ). Remembers y g (x ∷ M)) (sym stays)
+        (remembers s (x ∷ M) (r .long) (r .settings) (λ c l. subst (Means (g .unit) c (windowOf c s)) (sym (same c)) (means s M c l r)))
 
-    lc : e .channel < CHANNELS
-    lc = back .1
+    -- it is kept as e
+    module _ (e : Entry) (back : Back (g .unit) e) (lc : e .channel < CHANNELS)
+        (step : (c : ℕ) → history g c (x ∷ M) ≡ added c (history g c M) e) (l : nextOf (history g (e .channel) M) ≤ e .minute) where
+      before : length (windowOf (e .channel) s) ≡ WINDOW
+      before = window-long s (e .channel) (r .long) lc
 
-    before : length (windowOf (e .channel) s) ≡ WINDOW
-    before = window-long s (e .channel) (r .long) lc
+      w : List ℕ
+      w = accepted (windowOf (e .channel) s) (e .minute) (cellOf e)
 
-    w : List ℕ
-    w = accepted (windowOf (e .channel) s) (e .minute) (cellOf e)
+      long : length w ≡ WINDOW
+      unfolding w
+      long = length-after (windowOf (e .channel) s) (e .minute) (cellOf e) before ∙ before
 
-    long : length w ≡ WINDOW
-    long = length-after (windowOf (e .channel) s) (e .minute) (cellOf e) before ∙ before
+      own : Means (g .unit) (e .channel) (windowOf (e .channel) (kept s e)) (history g (e .channel) (x ∷ M))
+      unfolding w
+      own =
+          rw (
+            here s (e .channel) w (r .long) lc long,
+            step (e .channel),
+            grown-own (history g (e .channel) M) e l,
+          )
+          (means-more (g .unit) e (windowOf (e .channel) s) (history g (e .channel) M) before back l (means s M (e .channel) lc r))
 
-    first : getD (kept s e) 0 0 ≡ getD s 0 0
-    first = first-stays s (kept s e) (settings-stay s (e .channel) w (r .long) lc long)
+      each : (c : ℕ) → c < CHANNELS → Dec (c ≡ e .channel) → Means (g .unit) c (windowOf c (kept s e)) (history g c (x ∷ M))
+      unfolding w
+      each c k (yes p) = subst (λ (d : ℕ). Means (g .unit) d (windowOf d (kept s e)) (history g d (x ∷ M))) (sym p) own
+      each c k (no p) =
+          rw (
+            beside s (e .channel) w (r .long) lc long c p,
+            step c,
+            grown-other c (history g c M) e (λ q. p (sym q)),
+          )
+          (means s M c k r)
 
-    own : Means u (e .channel) (windowOf (e .channel) (kept s e)) (history u (e .channel) (m ∷ M))
-    own =
-        rw (
-          here s (e .channel) w (r .long) lc long,
-          history-step u (e .channel) M m g,
-          grown-own (history u (e .channel) M) e l,
-        )
-        (means-more u e (windowOf (e .channel) s) (history u (e .channel) M) before (back .0) l (means s u M (e .channel) lc r))
+      changed : Remembers (kept s e) g (x ∷ M)
+      unfolding w
+      changed =
+          remembers (kept s e) (x ∷ M) (replaced-long s (e .channel) w (r .long) lc long)
+          (settings-stay s (e .channel) w (r .long) lc long ∙ r .settings)
+          (λ c k. each c k (ℕ-discrete c (e .channel)))
 
-    go : (c : ℕ) → c < CHANNELS → Dec (c ≡ e .channel) → Means u c (windowOf c (kept s e)) (history u c (m ∷ M))
-    go c k (yes p) = subst (λ (d : ℕ). Means u d (windowOf d (kept s e)) (history u d (m ∷ M))) (sym p) own
-    go c k (no p) =
-        rw (
-          beside s (e .channel) w (r .long) lc long c p,
-          history-step u c M m g,
-          grown-other c (history u c M) e (λ q. p (sym q)),
-        )
-        (means s u M c k r)
+  -- ---- a message
 
--- What a message comes to that none of 1 to 7 refuses: beside the newest of the messages heard.
-pub by-newest : (s : List ℕ) (u : BarometerUnit) (M : List (List ℕ)) (m : List ℕ) → Remembers s u M → (e : Entry) → received u m ≡ given e
-    → hearing s m ≡ answer (newestTests (nextOf (history u (e .channel) M)) (e .minute)) e
-by-newest s u M m r e g =
-    hearing-given s m (r .is-store) e (subst (λ (v : BarometerUnit). received v m ≡ given e) (sym (r .unit)) g)
-    ∙ ap (λ (n : ℕ). answer (newestTests n (e .minute)) e) (r .newest (e .channel) (received-back u m e g .1))
+  -- What a message comes to that none of 1 to 7 refuses: beside the newest of what was heard.
+  pub by-newest : (s : List ℕ) (M : List Sent) (m : List ℕ) → Remembers s g M → (e : Entry) → received (g .unit) m ≡ given e
+      → hearing s m ≡ answer (newestTests (nextOf (history g (e .channel) M)) (e .minute)) e
+  by-newest s M m r e q =
+      hearing-given s m (r .is-store) e (subst (λ (v : BarometerUnit). received v m ≡ given e) (sym (r .unit)) q)
+      ∙ ap (λ (n : ℕ). answer (newestTests n (e .minute)) e) (r .newest (e .channel) (received-back (g .unit) m e q .1))
 
-pub heard-remembers : (s : List ℕ) (u : BarometerUnit) (M : List (List ℕ)) (m : List ℕ) → Remembers s u M → Remembers (heardBy s m) u (m ∷ M)
-heard-remembers s u M m r = go (received u m) refl
-  where
-    by-time : (e : Entry) → received u m ≡ given e → (b : Bool) → leb (nextOf (history u (e .channel) M)) (e .minute) ≡ b
-        → Remembers (heardBy s m) u (m ∷ M)
-    by-time e g true t =
-        let l = leb-true (nextOf (history u (e .channel) M)) (e .minute) t in
-        subst (λ (x : List ℕ). Remembers x u (m ∷ M))
-        (sym (heard-given s m e (by-newest s u M m r e g ∙ later (nextOf (history u (e .channel) M)) (e .minute) e l)))
-        (changed s u M m e r g l)
-    by-time e g false t =
-        let l = leb-false (nextOf (history u (e .channel) M)) (e .minute) t in
-        let no = not-later (nextOf (history u (e .channel) M)) (e .minute) e l in
-        unchanged s u M m r (λ c. history-step u c M m g ∙ grown-early c (history u c M) e (early c l))
-        (heard-refused s m (no .0) (by-newest s u M m r e g ∙ no .1))
+  pub heard-remembers : (s : List ℕ) (M : List Sent) (m : List ℕ) → Remembers s g M → Remembers (heardBy s m) g (bytes m ∷ M)
+  heard-remembers s M m r = go (received (g .unit) m) refl
+    where
+      by-time : (e : Entry) → received (g .unit) m ≡ given e → (b : Bool) → leb (nextOf (history g (e .channel) M)) (e .minute) ≡ b
+          → Remembers (heardBy s m) g (bytes m ∷ M)
+      by-time e q true t =
+          let l = leb-true (nextOf (history g (e .channel) M)) (e .minute) t in
+          let back = received-back (g .unit) m e q in
+          subst (λ (x : List ℕ). Remembers x g (bytes m ∷ M))
+          (sym (heard-given s m e (by-newest s M m r e q ∙ later (nextOf (history g (e .channel) M)) (e .minute) e l)))
+          (changed s M (bytes m) r e (back .0) (back .1) (λ c. message-step g c M m q) l)
+      by-time e q false t =
+          let l = leb-false (nextOf (history g (e .channel) M)) (e .minute) t in
+          let no = not-later (nextOf (history g (e .channel) M)) (e .minute) e l in
+          unchanged s M (bytes m) r (heardBy s m) (λ c. message-step g c M m q ∙ grown-early c (history g c M) e (early c l))
+          (heard-refused s m (no .0) (by-newest s M m r e q ∙ no .1))
+        where
+          early : (c : ℕ) → e .minute < nextOf (history g (e .channel) M) → e .channel ≡ c → e .minute < nextOf (history g c M)
+          early c l p = subst (λ (d : ℕ). e .minute < nextOf (history g d M)) p l
+
+      go : (a : Answer ℕ Entry) → received (g .unit) m ≡ a → Remembers (heardBy s m) g (bytes m ∷ M)
+      go (refused n) q =
+          let seen : received (unitOf s) m ≡ refused n = subst (λ (v : BarometerUnit). received v m ≡ refused n) (sym (r .unit)) q in
+          unchanged s M (bytes m) r (heardBy s m) (λ c. message-step g c M m q) (heard-refused s m (numbered n []) (hearing-refused s m (r .is-store) n seen))
+      go (given e) q = by-time e q (leb (nextOf (history g (e .channel) M)) (e .minute)) refl
+
+  -- ---- an entry, with settings that a store opens with
+
+  module _ (good : checked g ≡ given tt) where
+    pub noted-remembers : (s : List ℕ) (M : List Sent) (n : Note) → Remembers s g M → Remembers (notedBy s n) g (note n ∷ M)
+    noted-remembers s M n r = go (entered g (history g windChannel M) (history g courseChannel M) n) refl
       where
-        early : (c : ℕ) → e .minute < nextOf (history u (e .channel) M) → e .channel ≡ c → e .minute < nextOf (history u c M)
-        early c l p = subst (λ (d : ℕ). e .minute < nextOf (history u d M)) p l
+        go : (a : Answer Numbered Entry) → entered g (history g windChannel M) (history g courseChannel M) n ≡ a → Remembers (notedBy s n) g (note n ∷ M)
+        go (refused x) q =
+            unchanged s M (note n) r (notedBy s n) (λ c. entry-step g c M n q) (noted-refused s n x (by-history g good s M n r ∙ q))
+        go (given e) q =
+            let w = taken g good (history g windChannel M) (history g courseChannel M) n e q in
+            subst (λ (x : List ℕ). Remembers x g (note n ∷ M)) (sym (noted-given s n e (by-history g good s M n r ∙ q)))
+            (changed s M (note n) r e (w .back) (subst (λ (c : ℕ). c < CHANNELS) (sym (w .channel)) (lit< tt)) (λ c. entry-step g c M n q)
+            (subst (λ (c : ℕ). nextOf (history g c M) ≤ e .minute) (sym (w .channel)) (w .later)))
 
-    go : (a : Answer ℕ Entry) → received u m ≡ a → Remembers (heardBy s m) u (m ∷ M)
-    go (refused n) g =
-        let seen : received (unitOf s) m ≡ refused n = subst (λ (v : BarometerUnit). received v m ≡ refused n) (sym (r .unit)) g in
-        unchanged s u M m r (λ c. history-step u c M m g) (heard-refused s m (numbered n []) (hearing-refused s m (r .is-store) n seen))
-    go (given e) g = by-time e g (leb (nextOf (history u (e .channel) M)) (e .minute)) refl
+    -- ---- the store
 
--- ---- the store
+    pub store-remembers : (M : List Sent) → Remembers (store-of g M) g M
+    store-remembers [] = opened-remembers
+    store-remembers (bytes m ∷ M) = heard-remembers (store-of g M) M m (store-remembers M)
+    store-remembers (note n ∷ M) = noted-remembers (store-of g M) M n (store-remembers M)
 
-pub store-remembers : (g : Settings) → checked g ≡ given tt → (M : List (List ℕ)) → Remembers (store-of g M) (g .unit) M
-store-remembers g good [] = opened-remembers g good
-store-remembers g good (m ∷ M) = heard-remembers (store-of g M) (g .unit) M m (store-remembers g good M)
+    -- A block that was opened is a store, and stays one whatever is sent.
+    pub store-is-open : (M : List Sent) → isStore (store-of g M) ≡ true
+    store-is-open M = store-remembers M .is-store
 
--- A block that was opened is a store, and stays one whatever is sent.
-pub store-is-open : (g : Settings) → checked g ≡ given tt → (M : List (List ℕ)) → isStore (store-of g M) ≡ true
-store-is-open g good M = store-remembers g good M .is-store
-
--- So it puts every message to the tests of the documents.
-pub open-hears : (g : Settings) → checked g ≡ given tt → (M : List (List ℕ)) (m : List ℕ)
-    → hearing (store-of g M) m ≡ answer (hearTests (store-of g M) m) (entryOfBytes (store-of g M) m)
-open-hears g good M m = store-hears (store-of g M) m (store-is-open g good M)
+    -- So it puts every message to the tests of the documents.
+    pub open-hears : (M : List Sent) (m : List ℕ) → hearing (store-of g M) m ≡ answer (hearTests (store-of g M) m) (entryOfBytes (store-of g M) m)
+    open-hears M m = store-hears (store-of g M) m (store-is-open M)

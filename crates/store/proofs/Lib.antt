@@ -1,8 +1,12 @@
 pub mod OpenLaws
 pub mod NewestLaws
 pub mod HearingLaws
+pub mod RecallLaws
 pub mod HearLaws
-pub mod LateLaws
+pub mod NotingLaws
+pub mod NoteLaws
+pub mod EntryLaws
+pub mod PlainLaws
 pub mod HistoryLaws
 pub mod StoreTheorems
 pub mod SingleAnswers

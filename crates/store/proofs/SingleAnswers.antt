@@ -6,6 +6,7 @@ use Prim.Native.Nat.{ℕ}
 use lib.Dec.{eqb}
 use Rattle.number.specs.Single.{Single, SingleLeft}
 use Rattle.number.specs.Refusal.{Numbered, Answer, refused, given}
+use Rattle.quantity.specs.declared.Minute.{Minute}
 use Rattle.wire.proofs.SingleAnswers.{refusal}
 use Rattle.wire.specs.declared.MessageRefusal.{MessageRefusal}
 use Rattle.wire.specs.declared.MessageRefusal.the-variants.{NotSixteenBytes, NoSuchChannel, ByteNotZero, NoSuchState, MinuteTooLate, NotFinite, OutsideLimits}
@@ -14,10 +15,11 @@ use Rattle.cell.proofs.SingleAnswers.{recall-of, recall-back}
 use Rattle.block.specs.Layout.{NO_STORE}
 use Rattle.store.specs.Block.{heardAs}
 use Rattle.store.specs.declared.Hearing.{Hearing}
-use Rattle.store.specs.declared.Hearing.the-variants.{Heard, Refused, Repeated, Late, NoStore}
+use Rattle.store.specs.declared.Hearing.the-variants.{Heard, Refused, Repeated, Late, OutsideDial, NoCourse, OutsideAnemometer, NoStore}
 use Rattle.store.proofs.number.Reads as number
 use Rattle.store.proofs.«open».Reads as opening
 use Rattle.store.proofs.hear.Reads as hear
+use Rattle.store.proofs.note.Reads as note
 use Rattle.store.proofs.recall.Reads as recall
 use Rattle.store.proofs.missing_minutes.Reads as missing-minutes
 
@@ -38,8 +40,21 @@ abbrev minutes-late : List ℕ → ℕ
 minutes-late [] = 0
 minutes-late (minutes ∷ more) = minutes
 
+-- 11 returns channel and minute
+abbrev course-minute : List ℕ → Minute
+course-minute [] = record { 0 = 0 }
+course-minute (c ∷ []) = record { 0 = 0 }
+course-minute (c ∷ m ∷ more) = record { 0 = m }
+
 abbrev refused-of : ℕ → List ℕ → Hearing
-refused-of n extra = cond (eqb n 8) Repeated (cond (eqb n 19) (Late (minutes-late extra)) (cond (eqb n NO_STORE) NoStore (Refused (refusal n))))
+refused-of n extra =
+    cond (eqb n 8) Repeated
+    (cond (eqb n 19) (Late (minutes-late extra))
+    (cond (eqb n 23) OutsideDial
+    (cond (eqb n 11) (NoCourse (course-minute extra))
+    (cond (eqb n 24) OutsideAnemometer
+    (cond (eqb n NO_STORE) NoStore
+    (Refused (refusal n)))))))
 
 unfoldable pub hearing-of : Answer Numbered (Unit {0}) → Hearing
 hearing-of (refused r) = refused-of (r .number) (r .extra)
@@ -60,6 +75,9 @@ hearing-back (Refused r) = go r
     go OutsideLimits = refl
 hearing-back Repeated = refl
 hearing-back (Late minutes) = refl
+hearing-back OutsideDial = refl
+hearing-back (NoCourse m) = refl
+hearing-back OutsideAnemometer = refl
 hearing-back NoStore = refl
 
 pub single-hear : Single hear.Post
@@ -67,6 +85,14 @@ single-hear κs a r r′ s s′ p q = sym (hearing-back r) ∙ ap hearing-of (p 
 
 pub single-hear-left : SingleLeft hear.Post (λ κs s. s .0 .now)
 single-hear-left κs a r r′ s s′ p q = p .block ∙ sym (q .block)
+
+-- ---- note
+
+pub single-note : Single note.Post
+single-note κs a r r′ s s′ p q = sym (hearing-back r) ∙ ap hearing-of (p .answer ∙ sym (q .answer)) ∙ hearing-back r′
+
+pub single-note-left : SingleLeft note.Post (λ κs s. s .0 .now)
+single-note-left κs a r r′ s s′ p q = p .block ∙ sym (q .block)
 
 -- ---- asking
 

@@ -20,7 +20,7 @@ use Rattle.cell.specs.Cells.{CHANNELS, cellOf, Recall, absent, cellSays}
 use Rattle.block.specs.Layout.{NO_STORE}
 use Rattle.block.specs.Words.{opened, isStore, unitOf, windowOf, replaced}
 use Rattle.store.specs.declared.Hearing.{Hearing}
-use Rattle.store.specs.declared.Hearing.the-variants.{Heard, Refused, Repeated, Late, NoStore}
+use Rattle.store.specs.declared.Hearing.the-variants.{Heard, Refused, Repeated, Late, OutsideDial, NoCourse, OutsideAnemometer, NoStore}
 
 -- A block after an opening with these settings: "a refused opening gives no store", and leaves the block as it was.
 abbrev pub isGiven : {R A : Type 0} → Answer R A → Bool
@@ -84,11 +84,21 @@ absentOf s c m = cond (ltb c CHANNELS) (absents (present (windowOf c s)) m minut
 
 -- ---- the documents' number and values of each case, and the number of a block that is no store
 
+-- "2 apparent wind", "3 ship motion"
+abbrev pub windChannel : ℕ
+windChannel = 2
+
+abbrev pub courseChannel : ℕ
+courseChannel = 3
+
 abbrev pub heardAs : Hearing → Answer Numbered (Unit {0})
 heardAs Heard = given tt
 heardAs (Refused r) = refused (numbered (numberOf r) [])
 heardAs Repeated = refused (numbered 8 [])
 heardAs (Late minutes) = refused (numbered 19 (minutes ∷ []))
+heardAs OutsideDial = refused (numbered 23 [])
+heardAs (NoCourse m) = refused (numbered 11 (courseChannel ∷ m .0 ∷ []))
+heardAs OutsideAnemometer = refused (numbered 24 [])
 heardAs NoStore = refused (numbered NO_STORE [])
 
 abbrev pub outcome : {R : Type 0} → Answer R Entry → Answer R (Unit {0})

@@ -1,3 +1,4 @@
 pub mod Block
+pub mod Noting
 pub mod Before
 pub mod History

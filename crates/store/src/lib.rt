@@ -1,4 +1,5 @@
-// The store: a block that the caller lends is opened with settings, hears messages, and is asked what it keeps.
+// The store: a block that the caller lends is opened with settings, hears messages and entries of the hand anemometer, and is asked what
+// it keeps.
 ghost use mathlib.Core.Path.{_≡_};
 ghost use Prim.Native.Nat.{ℕ, _<_};
 ghost use lib.ListN.{length};
@@ -8,13 +9,18 @@ ghost use Rattle.message.specs.Receive.{Entry, entryOf};
 ghost use Rattle.cell.specs.Cells.{CHANNELS, recalledAs};
 ghost use Rattle.block.specs.Layout.{WORDS};
 ghost use Rattle.block.specs.Words.{windowOf};
+ghost use Rattle.store.specs.Noting.{IsCourse, workedAs, worked, Notes};
 ghost use Rattle.store.specs.Block.{openedBy, heardAs, newestTests, outcome, recallOf, absentOf, Keeps, Hears};
+use anemometer::Measured;
+use anemometer::Note;
 use block::NO_STORE;
 use block::SETTINGS;
 use block::Store;
 use cell::Recalled;
 use message::Reading;
 use message::Received;
+use number::Number;
+use quantity::Degrees;
 use quantity::Minute;
 use settings::Checked;
 use settings::Settings;
@@ -22,15 +28,21 @@ use window::Found;
 use window::WINDOW;
 use wire::MessageRefusal;
 
-// What hearing a message comes to.
+// What hearing a message or an entry comes to.
 pub enum Hearing {
     Heard,
-    // 1 to 7
+    // 1 to 7; of an entry 5 and 7
     Refused(MessageRefusal),
     // 8: the minute is that of the channel's newest
     Repeated,
     // 19: it is earlier, by so many minutes
     Late(u64),
+    // 23: seconds or dial of an entry are outside their limits
+    OutsideDial,
+    // 11: there is no course at an entry's minute
+    NoCourse(Minute),
+    // 24: an entry's rate is outside the anemometer's certificate, or there is none
+    OutsideAnemometer,
     // none of the documents': the block is no store
     NoStore,
 }
@@ -44,13 +56,34 @@ pub fn number(h: Hearing) -> u32
         Hearing::Refused(r) => wire::number(r),
         Hearing::Repeated => 8,
         Hearing::Late(_) => 19,
+        Hearing::OutsideDial => 23,
+        Hearing::NoCourse(_) => 11,
+        Hearing::OutsideAnemometer => 24,
         Hearing::NoStore => NO_STORE,
     }
 }
 
+// An entry worked into a reading of the apparent wind, or why there is none.
+enum Worked {
+    Wind(Reading),
+    // 23
+    OutsideDial,
+    // 11
+    NoCourse,
+    // 24
+    OutsideAnemometer,
+}
+
+// The course at a minute.
+enum Course {
+    NoneThere,
+    At(Degrees),
+}
+
 // ---- opening
 
-// Opens the block with these settings: nothing is heard yet. Or the first of refusals 9 and 10 that holds, and the block as it was.
+// Opens the block with these settings: nothing is heard yet. Or the first of refusals 9, 10 and 25 that holds, and the block as it
+// was.
 pub fn open(store: &mut Store, settings: Settings) -> Checked
     ensures { λ r. ⌜ (checkedAs r ≡ checked settings) × (now (store .exit) ≡ openedBy (now (store .entry)) settings) ⌝ }
 {
@@ -62,6 +95,7 @@ pub fn open(store: &mut Store, settings: Settings) -> Checked
         }
         Checked::OutsideLimits => answer,
         Checked::CertificateBroken => answer,
+        Checked::AnemometerBroken => answer,
     }
 }
 
@@ -161,4 +195,67 @@ pub fn missing_minutes(store: &Store, channel: u32, minute: u32) -> u64
     }
     let c = channel as usize;
     window::missed(window_of(store, c), minute, Minute::BETWEEN)
+}
+
+// ---- entries of the hand anemometer
+
+// The course that is kept at a minute.
+fn course_at(store: &Store, minute: u32) -> Course
+    ensures { λ r. ⌜ IsCourse (recallOf (now (store .entry)) 3 minute) r ⌝ }
+{
+    let Recalled::Kept(moved) = recall(store, 3, minute) else {
+        return Course::NoneThere;
+    };
+    let Reading::ShipMotion(_, course) = moved else {
+        return Course::NoneThere;
+    };
+    Course::At(course)
+}
+
+// Works an entry into a reading: speed by the dial, direction less the course that is kept at its minute. Or the first of refusals 23, 11
+// and 24 that holds.
+fn work(store: &Store, n: Note) -> Worked
+    ensures { λ r. ⌜ workedAs (n .minute) r ≡ worked (now (store .entry)) n ⌝ }
+{
+    let told = anemometer::measure(store, n);
+    let course = course_at(store, n.minute);
+    match told {
+        Measured::OutsideDial => Worked::OutsideDial,
+        Measured::OutsideCertificate => match course {
+            Course::NoneThere => Worked::NoCourse,
+            Course::At(_) => Worked::OutsideAnemometer,
+        },
+        Measured::Speed(v) => match course {
+            Course::NoneThere => Worked::NoCourse,
+            Course::At(ahead) => {
+                Worked::Wind(Reading::ApparentWind(v, anemometer::from_bow(n.direction, ahead)))
+            }
+        },
+    }
+}
+
+// Hears an entry: it is kept as a reading of channel 2, or the first of refusals 5, 7, 8, 19, 23, 11 and 24 that holds is given and the
+// block stays as it was. So does a block that is no store.
+pub fn note(store: &mut Store, n: Note) -> Hearing
+    ensures { λ r. ⌜ Notes (now (store .entry)) (now (store .exit)) n r ⌝ }
+{
+    if !block::is_store(store) {
+        return Hearing::NoStore;
+    }
+    if !Minute::holds(n.minute) {
+        return Hearing::Refused(MessageRefusal::MinuteTooLate);
+    }
+    if !Degrees::holds(Number::whole(n.direction)) {
+        return Hearing::Refused(MessageRefusal::OutsideLimits);
+    }
+    let next = window::next(window_of(store, 2));
+    if (n.minute as u64) < next {
+        return why(next, n.minute);
+    }
+    match work(store, n) {
+        Worked::Wind(r) => keep(store, n.minute, r),
+        Worked::OutsideDial => Hearing::OutsideDial,
+        Worked::NoCourse => Hearing::NoCourse(Minute(n.minute)),
+        Worked::OutsideAnemometer => Hearing::OutsideAnemometer,
+    }
 }

@@ -3,6 +3,7 @@ use mathlib.Core.Path.{sym, _∙_}
 use Rattle.number.specs.Single.{Single}
 use Rattle.told.proofs.settings_of.Reads as settings-of
 use Rattle.told.proofs.hearing_told.Reads as hearing-told
+use Rattle.told.proofs.noting_told.Reads as noting-told
 use Rattle.told.proofs.pressure_told.Reads as pressure-told
 use Rattle.told.proofs.tendency_told.Reads as tendency-told
 use Rattle.told.proofs.wind_told.Reads as wind-told
@@ -13,6 +14,9 @@ single-settings-of κs a r r′ s s′ p q = p ∙ sym q
 
 pub single-hearing-told : Single hearing-told.Post
 single-hearing-told κs a r r′ s s′ p q = p ∙ sym q
+
+pub single-noting-told : Single noting-told.Post
+single-noting-told κs a r r′ s s′ p q = p ∙ sym q
 
 pub single-pressure-told : Single pressure-told.Post
 single-pressure-told κs a r r′ s s′ p q = p ∙ sym q

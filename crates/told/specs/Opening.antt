@@ -21,4 +21,5 @@ settingsIn g =
       psychrometer = g .psychrometer;
       count = g .count;
       points = g .points;
+      anemometer = g .anemometer;
     }

@@ -10,6 +10,7 @@ use Rattle.station.specs.Told.{Change}
 use Rattle.station.specs.Questions.{Asked, question}
 use Rattle.station.specs.Questions as asked
 use Rattle.told.specs.declared.HearTold.{HearTold}
+use Rattle.told.specs.declared.NoteTold.{NoteTold}
 use Rattle.told.specs.declared.Refusal.{Refusal}
 use Rattle.told.specs.declared.PressureTold.{PressureTold}
 use Rattle.told.specs.declared.TendencyTold.{TendencyTold}
@@ -18,14 +19,19 @@ use Rattle.told.specs.declared.HumidityTold.{HumidityTold}
 
 -- ---- hearing
 
--- 19 also returns "the difference", in minutes.
-abbrev pub lateIn : List ℕ → ℕ
-lateIn [] = 0
-lateIn (minutes ∷ more) = minutes
+-- 19 also returns "the difference", in minutes, and an entry's 11 "channel, minute".
+abbrev pub notedAs : ℕ → List ℕ → NoteTold
+notedAs n [] = record { number = n; channel = 0; minute = 0; late = 0 }
+notedAs n (late ∷ []) = record { number = n; channel = 0; minute = 0; late = late }
+notedAs n (channel ∷ minute ∷ more) = record { number = n; channel = channel; minute = minute; late = 0 }
 
+abbrev pub notedIn : Answer Numbered (Unit {0}) → NoteTold
+notedIn (refused r) = notedAs (r .number) (r .extra)
+notedIn (given a) = notedAs 0 []
+
+-- A message needs no course: its number, and how late it is.
 abbrev pub heardIn : Answer Numbered (Unit {0}) → HearTold
-heardIn (refused r) = record { number = r .number; late = lateIn (r .extra) }
-heardIn (given a) = record { number = 0; late = 0 }
+heardIn a = record { number = notedIn a .number; late = notedIn a .late }
 
 -- ---- questions
 

@@ -3,11 +3,12 @@
 ghost use mathlib.Core.Path.{_≡_};
 ghost use Rattle.store.specs.Block.{heardAs};
 ghost use Rattle.station.specs.Told.{refusalOf, pressureAs, tendencyAs, windAs, humidityAs};
-ghost use Rattle.told.specs.Told.{heardIn, refusalIn, pressureIn, tendencyIn, windIn, humidityIn};
+ghost use Rattle.told.specs.Told.{heardIn, notedIn, refusalIn, pressureIn, tendencyIn, windIn, humidityIn};
 ghost use Rattle.told.specs.Opening.{unitIn, settingsIn};
 use number::Kept;
 use number::Number;
 use quantity::BarometerUnit;
+use settings::Anemometer;
 use settings::Height;
 use settings::POINTS;
 use settings::Point;
@@ -33,12 +34,23 @@ pub struct StoreSettings {
     pub psychrometer: PsychrometerCoefficient,
     pub count: u32,
     pub points: [Point; POINTS],
+    pub anemometer: Anemometer,
 }
 
 // What hearing a message came to: the number, and the minutes where it was late, 19.
 #[repr(C)]
 pub struct HearTold {
     pub number: u32,
+    pub late: u64,
+}
+
+// What hearing an entry came to: the number, and the channel and the minute where there is no course, 11, or the minutes where it was
+// late, 19.
+#[repr(C)]
+pub struct NoteTold {
+    pub number: u32,
+    pub channel: u32,
+    pub minute: u32,
     pub late: u64,
 }
 
@@ -110,6 +122,7 @@ pub fn settings_of(s: StoreSettings) -> Settings
     let coefficient = s.coefficient;
     let psychrometer = s.psychrometer;
     let points = s.points;
+    let anemometer = s.anemometer;
     Settings {
         unit,
         height,
@@ -118,19 +131,47 @@ pub fn settings_of(s: StoreSettings) -> Settings
         psychrometer,
         count: s.count,
         points,
+        anemometer,
     }
 }
 
 // ---- hearing
 
-// What hearing came to, as a number with the minutes that the message was late.
-pub fn hearing_told(h: Hearing) -> HearTold
-    ensures { λ r. ⌜ r ≡ heardIn (heardAs h) ⌝ }
+// What hearing an entry came to, as a number with what it also returns.
+pub fn noting_told(h: Hearing) -> NoteTold
+    ensures { λ r. ⌜ r ≡ notedIn (heardAs h) ⌝ }
 {
     let number = store::number(h);
     match h {
-        Hearing::Late(late) => HearTold { number, late },
-        _ => HearTold { number, late: 0 },
+        Hearing::Late(late) => NoteTold {
+            number,
+            channel: 0,
+            minute: 0,
+            late,
+        },
+        Hearing::NoCourse(m) => NoteTold {
+            number,
+            channel: 3,
+            minute: m.0,
+            late: 0,
+        },
+        _ => NoteTold {
+            number,
+            channel: 0,
+            minute: 0,
+            late: 0,
+        },
+    }
+}
+
+// What hearing a message came to, as a number with the minutes that it was late.
+pub fn hearing_told(h: Hearing) -> HearTold
+    ensures { λ r. ⌜ r ≡ heardIn (heardAs h) ⌝ }
+{
+    let told = noting_told(h);
+    HearTold {
+        number: told.number,
+        late: told.late,
     }
 }
 

@@ -1,15 +1,20 @@
 // From the numbers of a line to values: the settings of an `open` line, and the records of a `write` line.
 ghost use mathlib.Core.Path.{_≡_};
-ghost use Prim.Native.Nat.{_<_};
-ghost use Rattle.values.specs.Values.{at, keptOf, countOf, unitOf, pointOf, bodyOf, recordOf, settingsOf, recordsOf};
+ghost use Prim.Native.Nat.{_+_, _-_, _*_, _<_};
+ghost use lib.ListN.{length};
+ghost use Rattle.values.specs.Values.{at, keptOf, countOf, unitOf, barometerPoints, pointOf, ratePointOf, anemometerOf, bodyOf, recordOf, settingsOf, recordsOf};
 use number::Kept;
 use number::Number;
 use quantity::BarometerUnit;
+use settings::Anemometer;
 use settings::Correction;
 use settings::Height;
 use settings::POINTS;
 use settings::Point;
 use settings::PsychrometerCoefficient;
+use settings::RATES;
+use settings::Rate;
+use settings::RatePoint;
 use settings::SeaLevelDifference;
 use settings::Settings;
 use settings::TemperatureCoefficient;
@@ -17,6 +22,9 @@ use watchfile::BLANK;
 use watchfile::Body;
 use watchfile::RECORDS;
 use watchfile::Record;
+
+// What the word `anemometer` of an `open` line is laid as: no number with a sign is.
+pub const ANEMOMETER: u64 = 4294967296;
 
 // The number at a place, 0 where there is none.
 fn at(numbers: &[u64], i: usize) -> u64
@@ -39,17 +47,24 @@ fn kept_at(numbers: &[u64], i: usize) -> Kept
     Kept { v: narrow }
 }
 
-// How many points there are, as a number of 32 bits.
-fn count_of(words: usize) -> u32
-    ensures { λ r. ⌜ r ≡ countOf words ⌝ }
+// So many points, as a number of 32 bits.
+fn count_of(n: usize) -> u32
+    ensures { λ r. ⌜ r ≡ countOf n ⌝ }
 {
-    if words < 5 {
-        return 0;
-    }
-    if words - 5 < 4294967295 {
-        return (words - 5) as u32;
+    if n < 4294967295 {
+        return n as u32;
     }
     4294967295
+}
+
+// a less b, and 0 where b is more.
+fn less(a: usize, b: usize) -> usize
+    ensures { λ r. ⌜ r ≡ a - b ⌝ }
+{
+    if a < b {
+        return 0;
+    }
+    a - b
 }
 
 fn unit_of(n: u64) -> BarometerUnit
@@ -61,12 +76,32 @@ fn unit_of(n: u64) -> BarometerUnit
     BarometerUnit::Millimetres
 }
 
-// Point i of a line with so many words.
-fn point_of(numbers: &[u64], words: usize, i: usize) -> Point
-    requires { ⌜ i < 16 ⌝ }
-    ensures { λ r. ⌜ r ≡ pointOf (now (numbers .entry)) words i ⌝ }
+// How many words of an `open` line behind A stand before `anemometer`, or all. Where the word is there, it stands within the numbers.
+fn barometer_points(numbers: &[u64], words: usize) -> usize
+    ensures { λ r. ⌜ (r ≡ barometerPoints (now (numbers .entry)) words) × (r < words - 5 → 5 + 2 * r < length (now (numbers .entry))) ⌝ }
 {
-    if 5 + i < words {
+    let points = less(words, 5);
+    let mut i: usize = 0;
+    let mut k: usize = 5;
+    while k < numbers.len() {
+        if i == points {
+            return points;
+        }
+        if numbers[k] == ANEMOMETER {
+            return i;
+        }
+        i += 1;
+        k += 2;
+    }
+    points
+}
+
+// Point i of a certificate of b points.
+fn point_of(numbers: &[u64], b: usize, i: usize) -> Point
+    requires { ⌜ i < 16 ⌝ }
+    ensures { λ r. ⌜ r ≡ pointOf (now (numbers .entry)) b i ⌝ }
+{
+    if i < b {
         return Point {
             reading: kept_at(numbers, 5 + 2 * i),
             correction: Correction(kept_at(numbers, 6 + 2 * i)),
@@ -76,6 +111,24 @@ fn point_of(numbers: &[u64], words: usize, i: usize) -> Point
     Point {
         reading: zero,
         correction: Correction(zero),
+    }
+}
+
+// Point i of an anemometer's certificate of n points, behind b points of the barometer.
+fn rate_point_of(numbers: &[u64], b: usize, n: usize, i: usize) -> RatePoint
+    requires { ⌜ (i < 20) × (i < n → 5 + 2 * b < length (now numbers)) ⌝ }
+    ensures { λ r. ⌜ r ≡ ratePointOf (now (numbers .entry)) b n i ⌝ }
+{
+    if i < n {
+        return RatePoint {
+            rate: Rate(kept_at(numbers, 7 + 2 * (b + i))),
+            speed: kept_at(numbers, 8 + 2 * (b + i)),
+        };
+    }
+    let zero = Kept { v: 0 };
+    RatePoint {
+        rate: Rate(zero),
+        speed: zero,
     }
 }
 
@@ -123,6 +176,30 @@ fn record_of(numbers: &[u64], words: usize, i: usize) -> Record
     BLANK
 }
 
+// The anemometer of an `open` line with so many words behind the name, b of them points of the barometer.
+fn anemometer_of(numbers: &[u64], words: usize, b: usize) -> Anemometer
+    requires { ⌜ (b < words - 5 → 5 + 2 * b < length (now numbers)) ⌝ }
+    ensures { λ r. ⌜ r ≡ anemometerOf (now (numbers .entry)) words b ⌝ }
+{
+    let zero = Kept { v: 0 };
+    let none = RatePoint {
+        rate: Rate(zero),
+        speed: zero,
+    };
+    let n = less(less(words, 6), b);
+    let mut points = [none; RATES];
+    let mut i = 0;
+    while i < RATES {
+        let point = rate_point_of(numbers, b, n, i);
+        points[i] = point;
+        i += 1;
+    }
+    Anemometer {
+        count: count_of(n),
+        points,
+    }
+}
+
 // The settings that the numbers of an `open` line say, which has so many words behind the name.
 pub fn settings_of(numbers: &[u64], words: usize) -> Settings
     ensures { λ r. ⌜ r ≡ settingsOf (now (numbers .entry)) words ⌝ }
@@ -132,10 +209,11 @@ pub fn settings_of(numbers: &[u64], words: usize) -> Settings
         reading: zero,
         correction: Correction(zero),
     };
+    let b = barometer_points(numbers, words);
     let mut points = [nowhere; POINTS];
     let mut i = 0;
     while i < POINTS {
-        let point = point_of(numbers, words, i);
+        let point = point_of(numbers, b, i);
         points[i] = point;
         i += 1;
     }
@@ -145,8 +223,9 @@ pub fn settings_of(numbers: &[u64], words: usize) -> Settings
         difference: SeaLevelDifference(kept_at(numbers, 2)),
         coefficient: TemperatureCoefficient(kept_at(numbers, 3)),
         psychrometer: PsychrometerCoefficient(kept_at(numbers, 4)),
-        count: count_of(words),
+        count: count_of(b),
         points,
+        anemometer: anemometer_of(numbers, words, b),
     }
 }
 

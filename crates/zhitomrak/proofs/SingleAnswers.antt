@@ -1,4 +1,4 @@
--- Each exported contract allows a single answer, and `open`, `hear`, `write` and `list` a single content of what they are lent: the
+-- Each exported contract allows a single answer, and `open`, `hear`, `note`, `write` and `list` a single content of what they are lent: the
 -- station's answer is one, and it is told in one way; the dew point has one rule. Assumes nothing.
 use mathlib.Core.Path.{_≡_, sym, ap, _∙_}
 use mathlib.Core.List.{List, [], _∷_}
@@ -15,6 +15,7 @@ use Rattle.told.specs.Told.{Told, toldIn}
 use Rattle.zhitomrak.specs.Calls.{AnsweredAs}
 use Rattle.zhitomrak.proofs.zhitomrak_open.Reads as opening
 use Rattle.zhitomrak.proofs.zhitomrak_hear.Reads as hear
+use Rattle.zhitomrak.proofs.zhitomrak_note.Reads as note
 use Rattle.zhitomrak.proofs.zhitomrak_pressure.Reads as pressure
 use Rattle.zhitomrak.proofs.zhitomrak_tendency.Reads as tendency
 use Rattle.zhitomrak.proofs.zhitomrak_wind.Reads as wind
@@ -24,7 +25,7 @@ use Rattle.zhitomrak.proofs.zhitomrak_record_at.Reads as record-at
 use Rattle.zhitomrak.proofs.zhitomrak_write_words.Reads as write
 use Rattle.zhitomrak.proofs.zhitomrak_list.Reads as list
 
--- ---- open and hear
+-- ---- open, hear and note
 
 pub single-open : Single opening.Post
 single-open κs a r r′ s s′ p q = p .answer ∙ sym (q .answer)
@@ -37,6 +38,12 @@ single-hear κs a r r′ s s′ p q = p .answer ∙ sym (q .answer)
 
 pub single-hear-left : SingleLeft hear.Post (λ κs s. s .0 .now)
 single-hear-left κs a r r′ s s′ p q = p .block ∙ sym (q .block)
+
+pub single-note : Single note.Post
+single-note κs a r r′ s s′ p q = p .answer ∙ sym (q .answer)
+
+pub single-note-left : SingleLeft note.Post (λ κs s. s .0 .now)
+single-note-left κs a r r′ s s′ p q = p .block ∙ sym (q .block)
 
 -- ---- questions
 

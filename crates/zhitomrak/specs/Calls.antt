@@ -9,16 +9,19 @@ use lib.ListN.{length}
 use Rattle.number.specs.Refusal.{Answer, Numbered, numberIn}
 use Rattle.settings.specs.Settings.{checked}
 use Rattle.store.specs.Block.{openedBy, hearing, heardBy, outcome}
+use Rattle.anemometer.specs.declared.Note.{Note}
+use Rattle.store.specs.Noting.{noting, notedBy}
 use Rattle.station.specs.Questions.{Asked, Reply, question, TellsOf}
 use Rattle.watchfile.specs.Format.{writing}
 use Rattle.handed.specs.Words.{recordsIn}
 use Rattle.writer.specs.Write.{offered}
 use Rattle.octets.specs.Lent.{sized, leftBy}
 use Rattle.listing.specs.Listing.{listing}
-use Rattle.told.specs.Told.{heardIn, Told, toldIn}
+use Rattle.told.specs.Told.{heardIn, notedIn, Told, toldIn}
 use Rattle.told.specs.Opening.{settingsIn}
 use Rattle.told.specs.declared.StoreSettings.{StoreSettings}
 use Rattle.told.specs.declared.HearTold.{HearTold}
+use Rattle.told.specs.declared.NoteTold.{NoteTold}
 use Rattle.filed.specs.Files.{writeIn, listIn}
 use Rattle.filed.specs.declared.WriteTold.{WriteTold}
 use Rattle.filed.specs.declared.ListTold.{ListTold}
@@ -38,6 +41,11 @@ pub record OpenedAs (s s′ : List ℕ) (g : StoreSettings) (r : ℕ) : Type 0 w
 pub record HeardAs (s s′ m : List ℕ) (r : HearTold) : Type 0 where
   pub answer : r ≡ heardIn (outcome (hearing s m))
   pub block : s′ ≡ heardBy s m
+
+-- An entry of the hand anemometer was heard, and answered by r.
+pub record NotedAs (s s′ : List ℕ) (n : Note) (r : NoteTold) : Type 0 where
+  pub answer : r ≡ notedIn (outcome (noting s n))
+  pub block : s′ ≡ notedBy s n
 
 -- ---- questions
 

@@ -9,13 +9,15 @@ ghost use Rattle.watchfile.specs.Format.{DewRule, reading};
 ghost use Rattle.reader.specs.Read.{counted, recordAt};
 ghost use Rattle.listing.specs.Listing.{listingOf};
 ghost use Rattle.filed.specs.Files.{fileIn};
-ghost use Rattle.zhitomrak.specs.Calls.{OpenedAs, HeardAs, AnsweredAs, WroteAs, ListedAs};
+ghost use Rattle.zhitomrak.specs.Calls.{OpenedAs, HeardAs, NotedAs, AnsweredAs, WroteAs, ListedAs};
+use anemometer::Note;
 use block::Store;
 use filed::FileTold;
 use filed::ListTold;
 use filed::WriteTold;
 use told::HearTold;
 use told::HumidityTold;
+use told::NoteTold;
 use told::PressureTold;
 use told::StoreSettings;
 use told::TendencyTold;
@@ -24,7 +26,7 @@ use watchfile::Figures;
 
 // ---- opening and hearing
 
-// Opens a store in the block: 0, and nothing is heard yet; or 9 or 10, and the block stays as it was, opened before or not. A unit
+// Opens a store in the block: 0, and nothing is heard yet; or 9, 10 or 25, and the block stays as it was, opened before or not. A unit
 // that is neither 0 nor 1 is 9.
 #[no_mangle]
 pub extern "C" fn zhitomrak_open(store: &mut Store, settings: StoreSettings) -> u32
@@ -43,6 +45,15 @@ pub extern "C" fn zhitomrak_hear(store: &mut Store, message: &[u8]) -> HearTold
     ensures { λ r. ⌜ HeardAs (now (store .entry)) (now (store .exit)) (now (message .entry)) r ⌝ }
 {
     told::hearing_told(station::hear(store, message))
+}
+
+// Hears an entry of the hand anemometer: 0, and it is kept; or 5, 7, 8, 19 with the minutes that it is late, 23, 11 with channel and
+// minute of the missing course, or 24, and the block stays as it was. So does one that was never opened: 255.
+#[no_mangle]
+pub extern "C" fn zhitomrak_note(store: &mut Store, note: Note) -> NoteTold
+    ensures { λ r. ⌜ NotedAs (now (store .entry)) (now (store .exit)) note r ⌝ }
+{
+    told::noting_told(station::note(store, note))
 }
 
 // ---- questions: of a block that was never opened the answer is 255

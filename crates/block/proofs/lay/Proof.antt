@@ -5,14 +5,14 @@ use native.Mathlib.Omega.{arith}
 use lib.ListN.{length, length-set, getD}
 use borrow.Author.Needs.{needs}
 use Rattle.block.specs.Layout.{SETTINGS, WORDS}
-use Rattle.block.specs.Words.{openedWord}
+use Rattle.block.specs.Words.{settingWord}
 use Rattle.block.proofs.WrittenLaws.{zeros, more-written, less-left, all-written}
 use Rattle.block.proofs.lay.Statement.{statement}
 use Rattle.block.proofs.lay.Tie as tie
 
 abbrev Inv-loop : tie.InvT-loop
 Inv-loop store₀ g i₀ store i =
-    (i ≤ SETTINGS) × (length store ≡ WORDS) × ((k : ℕ) → k < i → getD store k 0 ≡ openedWord g k) × ((k : ℕ) → i ≤ k → getD store k 0 ≡ 0)
+    (i ≤ SETTINGS) × (length store ≡ WORDS) × ((k : ℕ) → k < i → getD store k 0 ≡ settingWord g k) × ((k : ℕ) → i ≤ k → getD store k 0 ≡ 0)
 
 abbrev μ-loop : tie.MeasureT-loop
 μ-loop store₀ g i₀ store i = SETTINGS - i
@@ -42,8 +42,8 @@ loop-again c =
     let long : at .loop .i < length (at .loop .store) = omega arith in (
       omega arith,
       simp length-set (at .loop .inv .1),
-      λ k h. rw (c .setting-word .ensures) (more-written (openedWord g) (at .loop .store) (at .loop .i) long (at .loop .inv .2) k h),
-      less-left (openedWord g) (at .loop .store) (at .loop .i) (c .setting-word .result) (at .loop .inv .3),
+      λ k h. rw (c .setting-word .ensures) (more-written (settingWord g) (at .loop .store) (at .loop .i) long (at .loop .inv .2) k h),
+      less-left (settingWord g) (at .loop .store) (at .loop .i) (c .setting-word .result) (at .loop .inv .3),
     )
 
 returns : tie.Need-returns Inv-loop μ-loop

@@ -3,77 +3,87 @@ use mathlib.Core.Path.{_≡_, sym, ap, _∙_}
 use mathlib.Core.List.{List}
 use Prim.Native.Nat.{ℕ}
 use native.Mathlib.Omega.{arith}
-use lib.ListN.{take}
-use Rattle.line.specs.Words.{colon, field, same, part}
+use lib.ListN.{getD}
+use borrow.Author.Tests.{not-true, not-false}
+use Rattle.line.specs.Words.{colon, field, part}
 use Rattle.line.proofs.EndLaws.{end-inside, before-end}
-use Rattle.command.proofs.FormLaws.{fits-none, fits-low, fits-high, fits-capital}
+use Rattle.command.specs.Forms.{told}
+use Rattle.command.proofs.FormLaws.{fits-none, fits-any, fits-picked}
 use borrow.Author.Needs.{needs}
 use Rattle.command.proofs.fits.Statement.{statement}
 use Rattle.command.proofs.fits.Tie as tie
 
 returns : tie.Need-returns
-returns c = sym (fits-none (c .before .before .before .args .form .now) (c .before .before .before .args .word .now) (c .if1 .taken))
+returns c =
+    let q = c .before .before .before .args in
+    sym (fits-none (q .form .now) (q .word .now) (c .if1 .taken))
 
-shared-slice-read-if2 : tie.Need-shared-slice-read-if2
-shared-slice-read-if2 c = search needs
+shared-slice-read-letter : tie.Need-shared-slice-read-letter
+shared-slice-read-letter c = search needs
+
+picks-requires : tie.Need-picks-requires
+picks-requires c κs = search needs
 
 returns-2 : tie.Need-returns-2
-returns-2 c = sym (fits-low (c .before .before .before .before .before .args .form .now) (c .before .before .before .before .before .args .word .now) (c .if2 .taken))
-
-shared-slice-read-if3 : tie.Need-shared-slice-read-if3
-shared-slice-read-if3 c = search needs
-
-returns-3 : tie.Need-returns-3
-returns-3 c = sym (fits-high (c .before .before .before .before .before .before .before .args .form .now) (c .before .before .before .before .before .before .before .args .word .now) (c .if3 .taken))
+returns-2 c =
+    let q = c .before .before .before .before .before .before .args in
+    sym (fits-any (q .form .now) (q .word .now) (sym (c .before .picks .ensures) ∙ not-true _ (c .if2 .taken)))
 
 field-end-requires : tie.Need-field-end-requires
 field-end-requires c κs = search needs
 
-sub-same : tie.Need-sub-same
-sub-same c = search needs
+sub-told : tie.Need-sub-told
+sub-told c = search needs
 
-part-same-start : tie.Need-part-same-start
-part-same-start c = search needs
+part-told-start : tie.Need-part-told-start
+part-told-start c = search needs
 
-part-same-end : tie.Need-part-same-end
-part-same-end c =
-    let z = end-inside colon (c .before .before .before .before .before .before .before .before .args .word .now) 0 (omega arith) in
+part-told-end : tie.Need-part-told-end
+part-told-end c =
+    let z = end-inside colon (c .before .before .before .before .before .before .before .args .word .now) 0 (omega arith) in
     omega (arith, c .field-end .ensures)
 
-sub-same-2 : tie.Need-sub-same-2
-sub-same-2 c = search needs
+told-requires : tie.Need-told-requires
+told-requires c κs = search needs
 
-part-same-start-2 : tie.Need-part-same-start-2
-part-same-start-2 c = search needs
+enum-told : tie.Need-enum-told
+enum-told c = search needs
 
-part-same-end-2 : tie.Need-part-same-end-2
-part-same-end-2 c = search needs
+enum-told-2 : tie.Need-enum-told-2
+enum-told-2 c = search needs
 
-same-requires : tie.Need-same-requires
-same-requires c κs = search needs
+returns-3 : tie.Need-returns-3
+returns-3 c =
+    let q = c .before .before .before .before .before .before .before .before .before .before .before .args in
+    let word = q .word .now in
+    let to = c .before .before .before .before .field-end in
+    let e : part word 0 (to .result) ≡ field word = ap (part word 0) (to .ensures) ∙ sym (before-end colon word 0) in
+    let t = ap (told (getD (q .form .now) 0 0)) (sym e) ∙ sym (c .before .before .told .ensures) ∙ c .enum-told .given .1 in
+    sym (fits-picked (q .form .now) word (sym (c .before .before .before .before .before .before .picks .ensures) ∙ not-false _ (c .before .before .before .before .before .if2 .left)) t)
 
 returns-4 : tie.Need-returns-4
 returns-4 c =
-    let form = c .before .before .before .before .before .before .before .before .before .before .before .args .form .now in
-    let word = c .before .before .before .before .before .before .before .before .before .before .before .args .word .now in
-    let e : part word 0 (c .before .before .before .field-end .result) ≡ field word = ap (λ (n : ℕ). part word 0 n) (c .before .before .before .field-end .ensures) ∙ sym (before-end colon word 0) in
-    c .same .ensures ∙ ap (λ (x : List ℕ). same x (take 1 form)) e ∙ sym (fits-capital form word (omega arith) (omega arith))
+    let q = c .before .before .before .before .before .before .before .before .before .before .before .args in
+    let word = q .word .now in
+    let to = c .before .before .before .before .field-end in
+    let e : part word 0 (to .result) ≡ field word = ap (part word 0) (to .ensures) ∙ sym (before-end colon word 0) in
+    let t = ap (told (getD (q .form .now) 0 0)) (sym e) ∙ sym (c .before .before .told .ensures) ∙ c .enum-told2 .given .1 in
+    sym (fits-picked (q .form .now) word (sym (c .before .before .before .before .before .before .picks .ensures) ∙ not-false _ (c .before .before .before .before .before .if2 .left)) t)
 
 pub fits-spec : {M : Type 1} → statement M
 fits-spec =
     tie.close
     (tie.spec
     returns
-    shared-slice-read-if2
+    shared-slice-read-letter
+    picks-requires
     returns-2
-    shared-slice-read-if3
-    returns-3
     field-end-requires
-    sub-same
-    part-same-start
-    part-same-end
-    sub-same-2
-    part-same-start-2
-    part-same-end-2
-    same-requires
+    sub-told
+    part-told-start
+    part-told-end
+    told-requires
+    enum-told
+    enum-told-2
+    returns-3
     returns-4)

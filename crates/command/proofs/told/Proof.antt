@@ -140,30 +140,70 @@ returns-10 : tie.Need-returns-10
 unfolding told
 returns-10 c =
     rw (
-      ne-eqb _ _ (c .before .before .before .before .before .before .before .before .before .before .if1 .left),
-      ne-eqb _ _ (c .before .before .before .before .before .before .before .before .before .if2 .left),
-      ne-eqb _ _ (c .before .before .before .before .before .before .before .before .if3 .left),
-      ne-eqb _ _ (c .before .before .before .before .before .before .before .if4 .left),
-      ne-eqb _ _ (c .before .before .before .before .before .before .if5 .left),
-      ne-eqb _ _ (c .before .before .before .before .before .if6 .left),
-      ne-eqb _ _ (c .before .before .before .before .if7 .left),
-      ne-eqb _ _ (c .before .before .before .if8 .left),
-      sym (c .before .same .ensures) ∙ c .if10 .taken,
+      ne-eqb _ _ (c .before .before .before .before .before .before .before .before .before .before .before .if1 .left),
+      ne-eqb _ _ (c .before .before .before .before .before .before .before .before .before .before .if2 .left),
+      ne-eqb _ _ (c .before .before .before .before .before .before .before .before .before .if3 .left),
+      ne-eqb _ _ (c .before .before .before .before .before .before .before .before .if4 .left),
+      ne-eqb _ _ (c .before .before .before .before .before .before .before .if5 .left),
+      ne-eqb _ _ (c .before .before .before .before .before .before .if6 .left),
+      ne-eqb _ _ (c .before .before .before .before .before .if7 .left),
+      ne-eqb _ _ (c .before .before .before .before .if8 .left),
+      eq-eqb _ _ (c .before .before .before .if10 .taken),
+      sym (c .before .same .ensures) ∙ c .if11 .taken,
     )
 
 returns-11 : tie.Need-returns-11
 unfolding told
 returns-11 c =
     rw (
-      ne-eqb _ _ (c .before .before .before .before .before .before .before .before .before .before .if1 .left),
-      ne-eqb _ _ (c .before .before .before .before .before .before .before .before .before .if2 .left),
-      ne-eqb _ _ (c .before .before .before .before .before .before .before .before .if3 .left),
-      ne-eqb _ _ (c .before .before .before .before .before .before .before .if4 .left),
-      ne-eqb _ _ (c .before .before .before .before .before .before .if5 .left),
-      ne-eqb _ _ (c .before .before .before .before .before .if6 .left),
-      ne-eqb _ _ (c .before .before .before .before .if7 .left),
-      ne-eqb _ _ (c .before .before .before .if8 .left),
-      sym (c .before .same .ensures) ∙ c .if10 .left,
+      ne-eqb _ _ (c .before .before .before .before .before .before .before .before .before .before .before .if1 .left),
+      ne-eqb _ _ (c .before .before .before .before .before .before .before .before .before .before .if2 .left),
+      ne-eqb _ _ (c .before .before .before .before .before .before .before .before .before .if3 .left),
+      ne-eqb _ _ (c .before .before .before .before .before .before .before .before .if4 .left),
+      ne-eqb _ _ (c .before .before .before .before .before .before .before .if5 .left),
+      ne-eqb _ _ (c .before .before .before .before .before .before .if6 .left),
+      ne-eqb _ _ (c .before .before .before .before .before .if7 .left),
+      ne-eqb _ _ (c .before .before .before .before .if8 .left),
+      eq-eqb _ _ (c .before .before .before .if10 .taken),
+      sym (c .before .same .ensures) ∙ c .if11 .left,
+    )
+
+slice-aggregate-same-2 : tie.Need-slice-aggregate-same-2
+slice-aggregate-same-2 c = search needs
+
+same-requires-2 : tie.Need-same-requires-2
+same-requires-2 c κs = search needs
+
+returns-12 : tie.Need-returns-12
+unfolding told
+returns-12 c =
+    rw (
+      ne-eqb _ _ (c .before .before .before .before .before .before .before .before .before .before .before .if1 .left),
+      ne-eqb _ _ (c .before .before .before .before .before .before .before .before .before .before .if2 .left),
+      ne-eqb _ _ (c .before .before .before .before .before .before .before .before .before .if3 .left),
+      ne-eqb _ _ (c .before .before .before .before .before .before .before .before .if4 .left),
+      ne-eqb _ _ (c .before .before .before .before .before .before .before .if5 .left),
+      ne-eqb _ _ (c .before .before .before .before .before .before .if6 .left),
+      ne-eqb _ _ (c .before .before .before .before .before .if7 .left),
+      ne-eqb _ _ (c .before .before .before .before .if8 .left),
+      ne-eqb _ _ (c .before .before .before .if10 .left),
+      sym (c .before .same2 .ensures) ∙ c .if12 .taken,
+    )
+
+returns-13 : tie.Need-returns-13
+unfolding told
+returns-13 c =
+    rw (
+      ne-eqb _ _ (c .before .before .before .before .before .before .before .before .before .before .before .if1 .left),
+      ne-eqb _ _ (c .before .before .before .before .before .before .before .before .before .before .if2 .left),
+      ne-eqb _ _ (c .before .before .before .before .before .before .before .before .before .if3 .left),
+      ne-eqb _ _ (c .before .before .before .before .before .before .before .before .if4 .left),
+      ne-eqb _ _ (c .before .before .before .before .before .before .before .if5 .left),
+      ne-eqb _ _ (c .before .before .before .before .before .before .if6 .left),
+      ne-eqb _ _ (c .before .before .before .before .before .if7 .left),
+      ne-eqb _ _ (c .before .before .before .before .if8 .left),
+      ne-eqb _ _ (c .before .before .before .if10 .left),
+      sym (c .before .same2 .ensures) ∙ c .if12 .left,
     )
 
 pub told-spec : {M : Type 1} → statement M
@@ -191,4 +231,8 @@ told-spec =
     slice-aggregate-same
     same-requires
     returns-10
-    returns-11)
+    returns-11
+    slice-aggregate-same-2
+    same-requires-2
+    returns-12
+    returns-13)

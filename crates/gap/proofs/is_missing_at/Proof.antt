@@ -1,8 +1,7 @@
 -- `is_missing_at` meets its contract. Assumes nothing.
 use mathlib.Core.Path.{ap, _∙_}
-use Rattle.cell.specs.Cells.{Recall}
+use Rattle.cell.specs.Cells.{Recall, isPresent}
 use mathlib.Core.Bool.{not}
-use Rattle.store.specs.History.{isPresent}
 use borrow.Author.Needs.{needs}
 use Rattle.gap.proofs.is_missing_at.Statement.{statement}
 use Rattle.gap.proofs.is_missing_at.Tie as tie

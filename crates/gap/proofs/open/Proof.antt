@@ -3,10 +3,11 @@ use mathlib.Core.Path.{sym, ap, _∙_, subst}
 use mathlib.Core.List.{List, []}
 use Prim.Native.Nat.{ℕ}
 use denote.Ref.{now}
-use Rattle.quantity.specs.declared.BarometerUnit.the-variants.{Hectopascals}
-use Rattle.store.specs.Block.{isGiven}
+use Rattle.settings.specs.Settings.{checked}
+use Rattle.store.specs.Block.{openedBy, isGiven}
 use Rattle.store.specs.History.{Remembers}
-use Rattle.gap.proofs.WatchLaws.{opened-well}
+use Rattle.gap.specs.Watch.{ship}
+use Rattle.gap.proofs.WatchLaws.{good, opened-well}
 use borrow.Author.Needs.{needs}
 use Rattle.gap.proofs.open.Statement.{statement}
 use Rattle.gap.proofs.open.Tie as tie
@@ -21,13 +22,14 @@ is-good-requires : tie.Need-is-good-requires
 is-good-requires c κs = search needs
 
 expect-requires : tie.Need-expect-requires
-expect-requires c κs = c .is-good .ensures ∙ ap isGiven (c .before .«open» .ensures .0 ∙ c .before .before .settings .ensures .0)
+expect-requires c κs =
+    c .is-good .ensures ∙ ap isGiven (c .before .«open» .ensures .0 ∙ ap checked (c .before .before .settings .ensures) ∙ good)
 
 returns : tie.Need-returns
 returns c =
-    let set = c .before .before .before .settings in
-    subst (λ (s : List ℕ). Remembers s Hectopascals []) (sym (c .before .before .«open» .ensures .1))
-    (opened-well (now (c .before .before .before .before .before .args .store)) (set .result) (set .ensures .0) (set .ensures .1))
+    let s = now (c .before .before .before .before .before .args .store) in
+    let after = c .before .before .«open» .ensures .1 ∙ ap (openedBy s) (c .before .before .before .settings .ensures) in
+    subst (λ (x : List ℕ). Remembers x ship []) (sym after) (opened-well s)
 
 pub open-spec : {M : Type 1} → statement M
 open-spec =

@@ -4,7 +4,8 @@ use Prim.Native.Nat.{_*_, _^_, _≤_}
 use native.Mathlib.Omega.{arith}
 use native.Mathlib.Nat.{le-trans, le-of-eq}
 use lib.IntN.{natAbs}
-use Rattle.pressure.proofs.SizeLaws.{product, factor-size}
+use Rattle.certificate.proofs.SizeLaws.{product}
+use Rattle.pressure.proofs.SizeLaws.{factor-size}
 use borrow.Author.Needs.{needs}
 use Rattle.pressure.proofs.rounded_once.Statement.{statement}
 use Rattle.pressure.proofs.rounded_once.Tie as tie

@@ -1,7 +1,7 @@
 -- `temperature_correction` meets its contract: the product of two kept numbers fits. Assumes nothing.
 use native.Mathlib.Omega.{arith}
 use Rattle.pressure.specs.Pressure.{temperature}
-use Rattle.pressure.proofs.SizeLaws.{product}
+use Rattle.certificate.proofs.SizeLaws.{product}
 use borrow.Author.Needs.{needs}
 use Rattle.pressure.proofs.temperature_correction.Statement.{statement}
 use Rattle.pressure.proofs.temperature_correction.Tie as tie

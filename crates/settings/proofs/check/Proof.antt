@@ -22,12 +22,22 @@ unfolding answer checked
 returns-2 c =
     rw (sym (c .before .before .before .before .others-hold .ensures) ∙ not-false _ (c .before .before .before .if1 .left), sym (c .before .certificate-holds .ensures) ∙ not-true _ (c .if2 .taken))
 
+anemometer-holds-requires : tie.Need-anemometer-holds-requires
+anemometer-holds-requires c κs = search needs
+
 returns-3 : tie.Need-returns-3
 unfolding answer checked
 returns-3 c =
-    rw (sym (c .before .before .before .before .others-hold .ensures) ∙ not-false _ (c .before .before .before .if1 .left), sym (c .before .certificate-holds .ensures) ∙ not-false _ (c .if2 .left))
+    let at = c .before .before .before .before in
+    rw (sym (at .before .before .before .before .others-hold .ensures) ∙ not-false _ (at .before .before .before .if1 .left), sym (at .before .certificate-holds .ensures) ∙ not-false _ (at .if2 .left), sym (c .before .anemometer-holds .ensures) ∙ not-true _ (c .if3 .taken))
+
+returns-4 : tie.Need-returns-4
+unfolding answer checked
+returns-4 c =
+    let at = c .before .before .before .before in
+    rw (sym (at .before .before .before .before .others-hold .ensures) ∙ not-false _ (at .before .before .before .if1 .left), sym (at .before .certificate-holds .ensures) ∙ not-false _ (at .if2 .left), sym (c .before .anemometer-holds .ensures) ∙ not-false _ (c .if3 .left))
 
 pub check-spec : {M : Type 1} → statement M
 check-spec =
     tie.close
-    (tie.spec others-hold-requires returns certificate-holds-requires returns-2 returns-3)
+    (tie.spec others-hold-requires returns certificate-holds-requires returns-2 anemometer-holds-requires returns-3 returns-4)

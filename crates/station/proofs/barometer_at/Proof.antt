@@ -5,11 +5,9 @@ use denote.Ref.{now}
 use lib.Dec.{lit<}
 use Rattle.message.specs.Receive.{entryOf}
 use Rattle.message.specs.declared.Reading.{Reading}
-use Rattle.cell.specs.Cells.{recalled}
+use Rattle.cell.specs.Cells.{recalled, isPresent, first}
 use Rattle.store.specs.Block.{recallOf}
-use Rattle.store.specs.History.{isPresent}
-use Rattle.station.specs.Source.{first}
-use Rattle.station.proofs.KeptLaws.{not-kept, is-kept, no-other}
+use Rattle.store.proofs.RecallLaws.{not-kept, is-kept, no-other}
 use borrow.Author.Needs.{needs}
 use Rattle.station.proofs.barometer_at.Statement.{statement}
 use Rattle.station.proofs.barometer_at.Tie as tie

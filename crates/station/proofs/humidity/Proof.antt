@@ -10,9 +10,8 @@ use Rattle.number.specs.Refusal.{Numbered, Test, Answer}
 use Rattle.message.specs.Receive.{entryOf}
 use Rattle.message.specs.declared.Reading.{Reading}
 use Rattle.message.specs.declared.Reading.the-variants.{DryBulb, WetBulb}
-use Rattle.cell.specs.Cells.{recalled}
+use Rattle.cell.specs.Cells.{recalled, isPresent, first}
 use Rattle.store.specs.Block.{recallOf}
-use Rattle.store.specs.History.{isPresent}
 use Rattle.pressure.specs.Pressure.{barometerOf, outside, stationAnswer, pressureAs}
 use Rattle.pressure.specs.declared.WorkedPressure.{WorkedPressure}
 use Rattle.pressure.specs.declared.WorkedPressure.the-variants as pressed
@@ -21,14 +20,15 @@ use Rattle.humidity.specs.Humidity.{IsMoisture}
 use Rattle.humidity.specs.declared.HumidityFigures.{HumidityFigures}
 use Rattle.humidity.specs.declared.Moisture.{Moisture}
 use Rattle.humidity.specs.declared.Moisture.the-variants.{Given, WetAboveDry, TooWarmForIce, UnknownOutsideRange, AboveSaturation, TooDry, OutsideLimits}
-use Rattle.station.specs.Source.{held, first, inCelsius, stateIn, readingAt}
+use Rattle.station.specs.Source.{held, inCelsius, stateIn, readingAt}
 use Rattle.store.specs.Block.{noStore}
 use Rattle.station.specs.Questions.{Answers, tooLate, missingAt, dryAt, wetAt, stateAt, stationAt, HumidityRule, humidityTests, foreign}
 use Rattle.station.specs.Parts.{Shows}
 use Rattle.station.specs.declared.Shown.{Shown}
 use Rattle.station.specs.declared.Shown.the-variants as shown
 use Rattle.station.proofs.AnswerLaws.{no-store, too-late, both-pass, pass, stop}
-use Rattle.station.proofs.KeptLaws.{first-inside, in-its-unit, not-kept, is-kept, no-other}
+use Rattle.store.proofs.RecallLaws.{not-kept, is-kept, no-other}
+use Rattle.station.proofs.KeptLaws.{first-inside, in-its-unit}
 use Rattle.station.proofs.PressureLaws.{Got, station-got}
 use Rattle.station.proofs.HumidityLaws.{asked, moisture-told, moisture-of}
 use borrow.Author.Needs.{needs}

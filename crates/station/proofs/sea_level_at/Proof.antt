@@ -7,19 +7,19 @@ use lib.Dec.{lit<}
 use Rattle.message.specs.Receive.{entryOf}
 use Rattle.message.specs.declared.Reading.{Reading}
 use Rattle.message.specs.declared.Reading.the-variants.{Wheelhouse}
-use Rattle.cell.specs.Cells.{recalled}
+use Rattle.cell.specs.Cells.{recalled, isPresent, first}
 use Rattle.store.specs.Block.{recallOf}
-use Rattle.store.specs.History.{isPresent}
 use Rattle.pressure.specs.Pressure.{barometerOf, outside, seaLevelAnswer, pressureAs}
 use Rattle.pressure.specs.declared.WorkedPressure.{WorkedPressure}
 use Rattle.pressure.specs.declared.WorkedPressure.the-variants.{Given, OutsideLimits, OutsideCertificate}
-use Rattle.station.specs.Source.{held, first, inCelsius, readingAt}
+use Rattle.station.specs.Source.{held, inCelsius, readingAt}
 use Rattle.station.specs.Questions.{seaLevelAt}
 use Rattle.station.specs.Parts.{Shows}
 use Rattle.station.specs.declared.Shown.{Shown}
 use Rattle.station.specs.declared.Shown.the-variants as shown
 use Rattle.station.proofs.AnswerLaws.{pass, stop, end}
-use Rattle.station.proofs.KeptLaws.{first-inside, in-its-unit, not-kept, is-kept, no-other}
+use Rattle.store.proofs.RecallLaws.{not-kept, is-kept, no-other}
+use Rattle.station.proofs.KeptLaws.{first-inside, in-its-unit}
 use Rattle.station.proofs.PressureLaws.{Got, sea-level-got}
 use borrow.Author.Needs.{needs}
 use Rattle.station.proofs.sea_level_at.Statement.{statement}

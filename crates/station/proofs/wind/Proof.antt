@@ -10,17 +10,16 @@ use Rattle.number.proofs.Sizes.{never}
 use Rattle.message.specs.Receive.{entryOf}
 use Rattle.message.specs.declared.Reading.{Reading}
 use Rattle.message.specs.declared.Reading.the-variants.{ApparentWind, ShipMotion}
-use Rattle.cell.specs.Cells.{recalled}
+use Rattle.cell.specs.Cells.{recalled, isPresent, inDegrees}
 use Rattle.store.specs.Block.{recallOf}
-use Rattle.store.specs.History.{isPresent}
 use Rattle.wind.specs.Answer.{IsWind}
 use Rattle.wind.specs.declared.TrueWind.{TrueWind}
 use Rattle.wind.specs.declared.TrueWind.the-variants.{Blows, OutsideLimits}
-use Rattle.station.specs.Source.{held, inMetresPerSecond, inKnots, inDegrees}
+use Rattle.station.specs.Source.{held, inMetresPerSecond, inKnots}
 use Rattle.store.specs.Block.{noStore}
 use Rattle.station.specs.Questions.{Answers, tooLate, missingAt, WindRule}
 use Rattle.station.proofs.AnswerLaws.{no-store, too-late, both-pass, pass, stop, end}
-use Rattle.station.proofs.KeptLaws.{not-kept, is-kept, no-other}
+use Rattle.store.proofs.RecallLaws.{not-kept, is-kept, no-other}
 use Rattle.station.proofs.WindLaws.{kept-within, wind-of}
 use borrow.Author.Needs.{needs}
 use Rattle.station.proofs.wind.Statement.{statement}

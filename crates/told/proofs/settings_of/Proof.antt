@@ -7,7 +7,7 @@ unit-of-requires : tie.Need-unit-of-requires
 unit-of-requires c κs = search needs
 
 returns : tie.Need-returns
-returns c = rw (c .before .before .before .before .before .unit-of .ensures)
+returns c = rw (c .before .before .before .before .before .before .unit-of .ensures)
 
 pub settings-of-spec : {M : Type 1} → statement M
 settings-of-spec = tie.close (tie.spec unit-of-requires returns)

@@ -4,9 +4,6 @@ use borrow.Author.Needs.{needs}
 use Rattle.values.proofs.point_of.Statement.{statement}
 use Rattle.values.proofs.point_of.Tie as tie
 
-add-if1 : tie.Need-add-if1
-add-if1 c = search needs
-
 mul-kept-at : tie.Need-mul-kept-at
 mul-kept-at c = search needs
 
@@ -35,7 +32,6 @@ pub point-of-spec : {M : Type 1} → statement M
 point-of-spec =
     tie.close
     (tie.spec
-    add-if1
     mul-kept-at
     add-kept-at
     kept-at-requires

@@ -1,0 +1,5 @@
+pub mod MeasuredLaws
+pub mod CertificateLaws
+pub mod SingleAnswers
+pub mod SpeedTheorems
+pub mod DecidingCases

@@ -1,0 +1,9 @@
+pub mod OrderLaws
+pub mod LineLaws
+pub mod PairLaws
+pub mod SizeLaws
+pub mod RisingLaws
+pub mod WithinLaws
+pub mod SameLaws
+pub mod RateLaws
+pub mod SingleAnswers
