@@ -1,5 +1,6 @@
 /* A watch of four hours through the C interface: instruments are heard each minute with a gap, the four questions are asked, the wick
- * freezes, the answers go into a watch file, and the file is listed. */
+ * freezes, the wind head falls silent and the mate takes the hand anemometer, the answers go into a watch file, and the file is
+ * listed. */
 #include <inttypes.h>
 #include <stdio.h>
 #include <string.h>
@@ -19,6 +20,18 @@ static void send(zhitomrak_store *store, uint8_t channel, uint8_t state, uint32_
         printf("channel %u, minute %" PRIu32 ": refused 19, %" PRIu64 " minutes late\n", channel, minute, heard.late);
     else if (heard.number)
         printf("channel %u, minute %" PRIu32 ": refused %" PRIu32 "\n", channel, minute, heard.number);
+}
+
+/* The wind by the hand anemometer. It needs the course of its minute, from channel 3. */
+static void note(zhitomrak_store *store, zhitomrak_entry entry)
+{
+    zhitomrak_noted noted = zhitomrak_note(store, entry);
+    if (noted.number == 11)
+        printf("entry, minute %" PRIu32 ": refused 11, channel %" PRIu32 ", minute %" PRIu32 "\n", entry.minute, noted.channel, noted.minute);
+    else if (noted.number == 19)
+        printf("entry, minute %" PRIu32 ": refused 19, %" PRIu64 " minutes late\n", entry.minute, noted.late);
+    else if (noted.number)
+        printf("entry, minute %" PRIu32 ": refused %" PRIu32 "\n", entry.minute, noted.number);
 }
 
 static void say_refusal(zhitomrak_refusal why)
@@ -55,6 +68,9 @@ int main(void)
         .psychrometer = 662,
         .count = 2,
         .points = {{7300, -4}, {7500, -8}},
+        /* table 1 of RD 52.04.651 */
+        .anemometer = {.count = 11,
+                       .points = {{1, 13}, {2, 22}, {3, 31}, {4, 40}, {5, 49}, {6, 58}, {7, 67}, {8, 76}, {9, 85}, {10, 94}, {20, 188}}},
     };
     settings.height = 601;
     printf("open: %" PRIu32 "\n", zhitomrak_open(&store, settings));
@@ -86,6 +102,17 @@ int main(void)
     if (iced.refusal.number)
         return 1;
     say_humidity("humidity by an iced bulb", iced);
+
+    /* 140 divisions in a minute, past 9999, by the compass from 300 degrees: 2.5 m/s, and 40 degrees from the bow */
+    zhitomrak_entry entry = {.minute = 242, .direction = 300, .first = 9940, .second = 80, .seconds = 60};
+    note(&store, entry); /* the course has not come yet */
+    send(&store, 3, 0, 242, 12.5f, 260.0f);
+    note(&store, entry);
+    note(&store, entry); /* the same minute again */
+    zhitomrak_wind_answer by_hand = zhitomrak_wind(&store, 242);
+    if (by_hand.refusal.number)
+        return 1;
+    printf("wind by hand %" PRIu32 " from %" PRIu32 "\n", by_hand.speed, by_hand.direction);
 
     zhitomrak_record records[] = {
         {ZHITOMRAK_TENDENCY, 230, (int32_t)tendency.change, (int32_t)tendency.absent, 0, 0, 0},

@@ -11,10 +11,10 @@
  *   2. A pointer with a length or a number is not null (also where that is 0), is aligned for its type, and points to that many bytes,
  *      words or records that may be read, and written where the pointer is not const; a length is at most PTRDIFF_MAX.
  *   3. During a call nothing else writes what the pointers of that call point to, and nothing else reads what the call may write.
- *      So what a call may write overlaps nothing else of that call; two threads may ask one store at once, and none may hear then.
+ *      So what a call may write overlaps nothing else of that call; two threads may ask one store at once, and none may hear or note then.
  *   4. The functions are called with the C calling convention of x86-64 Linux, with the types declared here.
- * Nothing is owed beyond that: any block, opened or not, any bytes, any settings, any minute, any records and any count get the
- * answer that the comment names. The library keeps nothing between calls, allocates nothing, and calls nothing but memcpy,
+ * Nothing is owed beyond that: any block, opened or not, any bytes, any settings, any entry, any minute, any records and any count get
+ * the answer that the comment names. The library keeps nothing between calls, allocates nothing, and calls nothing but memcpy,
  * memset and memmove.
  */
 #ifndef ZHITOMRAK_H
@@ -30,17 +30,18 @@ extern "C" {
 /* ---- the store ---- */
 
 /* The words of a store's block: settings, and six channels of 256 minutes. */
-#define ZHITOMRAK_WORDS 1588
+#define ZHITOMRAK_WORDS 1609
 
-/* The most points of a certificate. */
+/* The most points of the barometer's certificate, and of the hand anemometer's. */
 #define ZHITOMRAK_POINTS 16
+#define ZHITOMRAK_ANEMOMETER_POINTS 20
 
 /* A store lives in a block that the caller lends. What the words mean is the library's affair. */
 typedef struct {
     uint64_t words[ZHITOMRAK_WORDS];
 } zhitomrak_store;
 
-/* What a block that was never opened answers to every message and to every question, and then it stays as it was: zeroed memory, or
+/* What a block that was never opened answers to every message, entry and question, and then it stays as it was: zeroed memory, or
  * memory whose openings were all refused. It is none of the documents' numbers. A store is known by a mark in its first word, which
  * zhitomrak_open writes there; so other memory is no store either, unless that word of it happens to be the mark. */
 #define ZHITOMRAK_NO_STORE 255u
@@ -50,6 +51,18 @@ typedef struct {
     int32_t reading;
     int32_t correction;
 } zhitomrak_point;
+
+/* A point of the hand anemometer's certificate. */
+typedef struct {
+    int32_t rate;  /* whole divisions a second: 0 to 9999 */
+    int32_t speed; /* tenths of m/s: 0 to 750 */
+} zhitomrak_anemometer_point;
+
+/* The hand anemometer's certificate. */
+typedef struct {
+    uint32_t count; /* how many points it is: 2 to 20, or 0 where the ship has no such instrument */
+    zhitomrak_anemometer_point points[ZHITOMRAK_ANEMOMETER_POINTS]; /* rates and speeds strictly rising */
+} zhitomrak_anemometer;
 
 #define ZHITOMRAK_HPA 0u
 #define ZHITOMRAK_MM_HG 1u
@@ -62,12 +75,13 @@ typedef struct {
     int32_t psychrometer;  /* coefficient A: 500 to 1000 millionths, 662 when the passport gives none */
     uint32_t count;        /* how many points are the certificate: 2 to 16 */
     zhitomrak_point points[ZHITOMRAK_POINTS]; /* readings within the barometer's limits and strictly rising, corrections -50 to 50 */
+    zhitomrak_anemometer anemometer; /* all zeros: none */
 } zhitomrak_settings;
 
 /* Opens a store: 0, and the block starts empty with these settings, whatever it held before. Or the first of these whose reason
- * holds, and the block stays as it was: 9, a setting other than the certificate is outside its limits (a unit that is none, too);
- * 10, the certificate breaks its rules. So a store that was open is still open then, and a block that was never opened is still none:
- * it answers ZHITOMRAK_NO_STORE. */
+ * holds, and the block stays as it was: 9, a setting other than the certificates is outside its limits (a unit that is none, too);
+ * 10, the barometer's certificate breaks its rules; 25, the hand anemometer's does, or its speeds leave 0 to 750. So a store that was
+ * open is still open then, and a block that was never opened is still none: it answers ZHITOMRAK_NO_STORE. */
 uint32_t zhitomrak_open(zhitomrak_store *store, zhitomrak_settings settings);
 
 /* What hearing a message came to. */
@@ -83,6 +97,34 @@ typedef struct {
  * block was never opened, and stays as it was too. Byte 1 of a wet bulb's message is its state, which is kept with the reading: 0
  * water, 1 ice, 2 unknown. On every other channel that byte must be zero. */
 zhitomrak_heard zhitomrak_hear(zhitomrak_store *store, const uint8_t *message, size_t length);
+
+/* The wind as a mate notes it by the hand anemometer. */
+typedef struct {
+    uint32_t minute;
+    uint32_t direction; /* that the apparent wind comes from, by the compass: 0 to 360 whole degrees */
+    uint32_t first;     /* the dial before: 0 to 9999 divisions */
+    uint32_t second;    /* the dial after; below the first it has passed 9999, once */
+    uint32_t seconds;   /* between the two: 1 to 600 */
+} zhitomrak_entry;
+
+/* What noting an entry came to. */
+typedef struct {
+    uint32_t number;  /* 0: noted */
+    uint32_t channel; /* of 11, else 0 */
+    uint32_t minute;  /* of 11, else 0 */
+    uint64_t late;    /* of 19: how many minutes the entry is earlier than channel 2's newest; else 0 */
+} zhitomrak_noted;
+
+/* Notes an entry of the hand anemometer: 0, and its wind is kept as the apparent wind of its minute, as if a message of channel 2 had
+ * said it; or the first of these whose reason holds, and the block stays as it was. 5, minute above 16777215; 7, direction above 360;
+ * 8, the minute is that of channel 2's newest; 19, it is earlier, with the minutes between; 23, a dial above 9999, or seconds not
+ * within 1 to 600; 11, channel 3, the ship's motion, has no reading at that minute, or keeps it no longer; 24, the rate lies outside
+ * the certificate, or the store has none. Channel 2's first gets neither 8 nor 19. Before all of them: ZHITOMRAK_NO_STORE, the block
+ * was never opened, and stays as it was too. The rate is the dial's divisions over the seconds, exactly; the speed is on the straight
+ * line between the two neighbouring points of the certificate, rounded once to 0.1 m/s, halves up; both ends belong to it. The
+ * direction kept is the compass direction less the course at that minute, 360 added where that is negative, and 360 kept as 0. (Of a
+ * block that has a store's mark and that no zhitomrak_open made a speed outside 0 to 750 is 24 too.) */
+zhitomrak_noted zhitomrak_note(zhitomrak_store *store, zhitomrak_entry entry);
 
 /* ---- questions: asking changes nothing; each can also be answered ZHITOMRAK_NO_STORE ---- */
 

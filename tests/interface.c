@@ -2,11 +2,22 @@
  * byte as it was, wherever the listing does not fit; else the text, and every byte behind it as it was. Single records are read of good
  * and of broken files. Messages are heard: 8 for the
  * minute of the channel's newest, 19 with the minutes between for an earlier one, and every word of the store as it was. The wet bulb
- * has states 0 to 2, each of its minutes its own, and humidity goes by it. */
+ * has states 0 to 2, each of its minutes its own, and humidity goes by it. The hand anemometer's certificate keeps its rules or is
+ * refused, after what 9 and 10 are for; its entries are noted, or refused by every number that they can get, and every word of the store
+ * as it was. */
+#include <stddef.h>
 #include <stdio.h>
 #include <string.h>
 
 #include "zhitomrak.h"
+
+/* The types as the library has them. */
+_Static_assert(sizeof(zhitomrak_store) == 8 * 1609, "a store");
+_Static_assert(sizeof(zhitomrak_anemometer_point) == 8, "a point of the anemometer's");
+_Static_assert(sizeof(zhitomrak_anemometer) == 164 && offsetof(zhitomrak_anemometer, points) == 4, "the anemometer's certificate");
+_Static_assert(sizeof(zhitomrak_settings) == 316 && offsetof(zhitomrak_settings, anemometer) == 152, "settings");
+_Static_assert(sizeof(zhitomrak_entry) == 20 && offsetof(zhitomrak_entry, seconds) == 16, "an entry");
+_Static_assert(sizeof(zhitomrak_noted) == 24 && offsetof(zhitomrak_noted, late) == 16, "what noting came to");
 
 static const char *name;
 
@@ -137,10 +148,22 @@ static int hears(zhitomrak_store *store, told t)
     return 1;
 }
 
+/* Good settings: corrections of 0, and the hand anemometer of RD 52.04.651's table 1. */
+static zhitomrak_settings good(void)
+{
+    return (zhitomrak_settings){
+        .unit = ZHITOMRAK_HPA,
+        .psychrometer = 662,
+        .count = 2,
+        .points = {{8500, 0}, {11000, 0}},
+        .anemometer = {.count = 11,
+                       .points = {{1, 13}, {2, 22}, {3, 31}, {4, 40}, {5, 49}, {6, 58}, {7, 67}, {8, 76}, {9, 85}, {10, 94}, {20, 188}}},
+    };
+}
+
 static int opens(zhitomrak_store *store)
 {
-    zhitomrak_settings settings = {.unit = ZHITOMRAK_HPA, .psychrometer = 662, .count = 2, .points = {{8500, 0}, {11000, 0}}};
-    if (zhitomrak_open(store, settings) == 0)
+    if (zhitomrak_open(store, good()) == 0)
         return 0;
     printf("interface: good settings are refused\n");
     return 1;
@@ -209,7 +232,170 @@ static int humidities(void)
     return 0;
 }
 
+/* An anemometer's certificate, all of its points, and what opening with it comes to. */
+typedef struct {
+    const char *what;
+    zhitomrak_anemometer anemometer;
+    uint32_t number;
+} certificate;
+
+static const certificate certificates[] = {
+    {"none", {0, {{0, 0}}}, 0},
+    {"none, with points behind it", {0, {{5, 5}, {4, 4}}}, 0},
+    {"one point", {1, {{5, 50}}}, 25},
+    {"the widest", {2, {{0, 0}, {9999, 750}}}, 0},
+    {"a rate of -1", {2, {{-1, 0}, {9999, 750}}}, 25},
+    {"a rate of 10000", {2, {{0, 0}, {10000, 750}}}, 25},
+    {"a speed of -0.1", {2, {{0, -1}, {9999, 750}}}, 25},
+    {"a speed of 75.1", {2, {{0, 0}, {9999, 751}}}, 25},
+    {"a rate twice", {3, {{1, 1}, {2, 2}, {2, 3}}}, 25},
+    {"a speed twice", {3, {{1, 1}, {2, 2}, {3, 2}}}, 25},
+    {"a rate that falls", {2, {{2, 1}, {1, 2}}}, 25},
+    {"a speed that falls", {2, {{1, 2}, {2, 1}}}, 25},
+    {"the least and the most of 32 bits", {2, {{INT32_MIN, INT32_MIN}, {INT32_MAX, INT32_MAX}}}, 25},
+};
+
+static int opened_as(const char *what, zhitomrak_settings settings, uint32_t number)
+{
+    static zhitomrak_store store, was;
+    memset(&store, 0xa5, sizeof store);
+    was = store;
+    uint32_t told = zhitomrak_open(&store, settings);
+    int same = memcmp(&was, &store, sizeof was) == 0;
+    if (told == number && same == (number != 0))
+        return 0;
+    printf("interface: an anemometer's certificate, %s: refused %lu, the memory %s; not %lu\n", what, (unsigned long)told,
+           same ? "as it was" : "changed", (unsigned long)number);
+    return 1;
+}
+
+static int openings(void)
+{
+    zhitomrak_settings settings = good();
+    for (size_t i = 0; i < sizeof certificates / sizeof certificates[0]; i++) {
+        settings.anemometer = certificates[i].anemometer;
+        if (opened_as(certificates[i].what, settings, certificates[i].number))
+            return 1;
+    }
+    settings = good();
+    for (int i = 0; i < ZHITOMRAK_ANEMOMETER_POINTS; i++)
+        settings.anemometer.points[i] = (zhitomrak_anemometer_point){i, 2 * i};
+    settings.anemometer.count = 20;
+    if (opened_as("20 points", settings, 0))
+        return 1;
+    settings.anemometer.count = 21;
+    if (opened_as("21 points", settings, 25))
+        return 1;
+    settings.anemometer.count = UINT32_MAX;
+    if (opened_as("more points than can be", settings, 25))
+        return 1;
+    settings.count = 1; /* 10 comes first, and 9 before that */
+    if (opened_as("and a barometer's of one point", settings, 10))
+        return 1;
+    settings.height = 601;
+    return opened_as("and a height of 60.1 m", settings, 9);
+}
+
+/* An entry, and what noting it comes to. */
+typedef struct {
+    zhitomrak_entry entry;
+    uint32_t number;
+    uint32_t channel;
+    uint32_t minute;
+    uint64_t late;
+} entered;
+
+/* In order, on a ship at rest whose course is 350 at minute 1000 and 0 at 1100; there is no course between. A good entry is {M, 10,
+ * 9900, 200, 60}: 300 divisions in a minute are 5 a second, 4.9 m/s. */
+static const entered log_of_entries[] = {
+    {{16777216, 361, 10000, 0, 0}, 5, 0, 0, 0},
+    {{UINT32_MAX, 10, 9900, 200, 60}, 5, 0, 0, 0},
+    {{1000, 361, 10000, 0, 0}, 7, 0, 0, 0},
+    {{1000, UINT32_MAX, 9900, 200, 60}, 7, 0, 0, 0},
+    {{1000, 10, 10000, 200, 60}, 23, 0, 0, 0},
+    {{1000, 10, 9900, 10000, 60}, 23, 0, 0, 0},
+    {{1000, 10, 9900, 200, 0}, 23, 0, 0, 0},
+    {{1000, 10, 9900, 200, 601}, 23, 0, 0, 0},
+    {{1000, 10, UINT32_MAX, UINT32_MAX, UINT32_MAX}, 23, 0, 0, 0},
+    {{1001, 10, 9900, 200, 601}, 23, 0, 0, 0}, /* before the course is missed */
+    {{1001, 10, 9900, 200, 60}, 11, 3, 1001, 0},
+    {{999, 10, 0, 0, 60}, 11, 3, 999, 0},  /* before the rate is looked at */
+    {{1000, 10, 0, 0, 60}, 24, 0, 0, 0},   /* no division */
+    {{1000, 10, 0, 59, 60}, 24, 0, 0, 0},  /* one less than 1 a second */
+    {{1000, 10, 0, 1201, 60}, 24, 0, 0, 0}, /* one more than 20 */
+    {{1000, 10, 9900, 200, 60}, 0, 0, 0, 0},
+    {{1000, 10, 9900, 200, 60}, 8, 0, 0, 0},
+    {{1000, 10, 10000, 200, 0}, 8, 0, 0, 0}, /* before 23 */
+    {{940, 10, 10000, 200, 0}, 19, 0, 0, 60},
+    {{0, 10, 9900, 200, 60}, 19, 0, 0, 1000},
+    {{0, 361, 9900, 200, 60}, 7, 0, 0, 0}, /* before 19 */
+    {{1100, 360, 0, 60, 60}, 0, 0, 0, 0},  /* the lower end, 1 a second, from 360 */
+};
+
+static int notes(zhitomrak_store *store, entered e)
+{
+    static zhitomrak_store was;
+    was = *store;
+    zhitomrak_noted told = zhitomrak_note(store, e.entry);
+    int same = memcmp(&was, store, sizeof was) == 0;
+    if (told.number == e.number && told.channel == e.channel && told.minute == e.minute && told.late == e.late && same == (e.number != 0))
+        return 0;
+    printf("interface: entry %lu %lu %lu %lu %lu: refused %lu, channel %lu, minute %lu, late %llu, the store %s; not %lu\n",
+           (unsigned long)e.entry.minute, (unsigned long)e.entry.direction, (unsigned long)e.entry.first, (unsigned long)e.entry.second,
+           (unsigned long)e.entry.seconds, (unsigned long)told.number, (unsigned long)told.channel, (unsigned long)told.minute,
+           (unsigned long long)told.late, same ? "as it was" : "changed", (unsigned long)e.number);
+    return 1;
+}
+
+/* The ship's motion, or the wind from its head. */
+static int pairs(zhitomrak_store *store, uint8_t channel, uint32_t minute, float speed, float direction, uint32_t number)
+{
+    uint8_t message[16] = {channel};
+    memcpy(message + 4, &minute, 4);
+    memcpy(message + 8, &speed, 4);
+    memcpy(message + 12, &direction, 4);
+    if (zhitomrak_hear(store, message, sizeof message).number == number)
+        return 0;
+    printf("interface: channel %u, minute %lu: not %lu\n", channel, (unsigned long)minute, (unsigned long)number);
+    return 1;
+}
+
+static int blows(const zhitomrak_store *store, uint32_t minute, uint32_t speed, uint32_t direction)
+{
+    zhitomrak_wind_answer w = zhitomrak_wind(store, minute);
+    if (w.refusal.number == 0 && w.speed == speed && w.direction == direction)
+        return 0;
+    printf("interface: the wind of minute %lu: refused %lu, %lu from %lu; not %lu from %lu\n", (unsigned long)minute,
+           (unsigned long)w.refusal.number, (unsigned long)w.speed, (unsigned long)w.direction, (unsigned long)speed,
+           (unsigned long)direction);
+    return 1;
+}
+
+/* The ship lies still, so the true wind is the one that was noted, from where the compass had it. */
+static int entries(void)
+{
+    static zhitomrak_store store;
+    if (opens(&store) || pairs(&store, 3, 1000, 0.0f, 350.0f, 0) || pairs(&store, 3, 1100, 0.0f, 0.0f, 0))
+        return 1;
+    for (size_t i = 0; i < sizeof log_of_entries / sizeof log_of_entries[0]; i++)
+        if (notes(&store, log_of_entries[i]))
+            return 1;
+    if (blows(&store, 1000, 49, 10) || blows(&store, 1100, 13, 360))
+        return 1;
+    /* the head's message is late by an entry, and then an entry by the head's message */
+    if (pairs(&store, 2, 1099, 8.0f, 0.0f, 19) || pairs(&store, 2, 1100, 8.0f, 0.0f, 8) || pairs(&store, 2, 1101, 8.0f, 0.0f, 0))
+        return 1;
+    if (notes(&store, (entered){{1101, 10, 9900, 200, 60}, 8, 0, 0, 0}) || notes(&store, (entered){{1100, 10, 9900, 200, 60}, 19, 0, 0, 1}))
+        return 1;
+    /* a ship without a hand anemometer */
+    zhitomrak_settings none = good();
+    none.anemometer = (zhitomrak_anemometer){0};
+    if (zhitomrak_open(&store, none) != 0 || pairs(&store, 3, 1000, 0.0f, 350.0f, 0))
+        return 1;
+    return notes(&store, (entered){{1000, 10, 9900, 200, 60}, 24, 0, 0, 0});
+}
+
 int main(void)
 {
-    return files() || messages() || humidities();
+    return files() || messages() || humidities() || openings() || entries();
 }

@@ -1,5 +1,5 @@
 /* Memory that was never opened is no store: zeroed, and after openings that were all refused, it answers ZHITOMRAK_NO_STORE to a
- * message and to the four questions, and stays all zeros. */
+ * message, to an entry and to the four questions, and stays all zeros. */
 #include <stdio.h>
 #include <string.h>
 
@@ -23,6 +23,15 @@ static void expect_not_heard(const char *what, zhitomrak_heard heard)
     expect(what, heard.late != 0, 0);
 }
 
+/* An entry's refusal has its number, and nothing else. */
+static void expect_not_noted(const char *what, zhitomrak_noted noted)
+{
+    expect(what, noted.number, ZHITOMRAK_NO_STORE);
+    expect(what, noted.channel, 0);
+    expect(what, noted.minute, 0);
+    expect(what, noted.late != 0, 0);
+}
+
 /* A question's refusal has its number, and nothing else. */
 static void expect_refusal(const char *what, zhitomrak_refusal why)
 {
@@ -40,6 +49,10 @@ static void expect_no_store(void)
     memcpy(message + 8, &pressure, 4);
     expect_not_heard("a message", zhitomrak_hear(&store, message, 16));
     expect_not_heard("a message of 15 bytes", zhitomrak_hear(&store, message, 15));
+    zhitomrak_entry entry = {.minute = 100, .direction = 10, .first = 9900, .second = 200, .seconds = 60};
+    expect_not_noted("an entry", zhitomrak_note(&store, entry));
+    entry = (zhitomrak_entry){UINT32_MAX, UINT32_MAX, UINT32_MAX, UINT32_MAX, UINT32_MAX};
+    expect_not_noted("an entry that is wrong", zhitomrak_note(&store, entry));
     for (size_t i = 0; i < sizeof minutes / sizeof minutes[0]; i++) {
         zhitomrak_pressure_answer p = zhitomrak_pressure(&store, minutes[i]);
         zhitomrak_tendency_answer t = zhitomrak_tendency(&store, minutes[i]);
@@ -66,6 +79,9 @@ int main(void)
     settings.height = 0;
     settings.count = 1;
     expect("a certificate of one point", zhitomrak_open(&store, settings), 10);
+    settings.count = 2;
+    settings.anemometer.count = 1;
+    expect("an anemometer's certificate of one point", zhitomrak_open(&store, settings), 25);
     expect_no_store();
     return wrong;
 }

@@ -1,8 +1,10 @@
 //! What both sides are given: settings, messages of whole watches, and records of files.
 
-use reference::{humidity, pressure, settings, station, vapour, watchfile as independent, wind};
+use reference::{
+    anemometer, humidity, pressure, settings, station, vapour, watchfile as independent, wind,
+};
 use zhitomrak::watchfile as proved;
-use zhitomrak::{Humidity, Point, Settings, Store, Tendency, Unit, Wind};
+use zhitomrak::{AnemometerPoint, Entry, Humidity, Point, Settings, Store, Tendency, Unit, Wind};
 
 /// A barometer: its unit, its certificate, and the readings that it has.
 pub struct Barometer {
@@ -24,6 +26,21 @@ pub const MM_HG: Barometer = Barometer {
     readings: (6750, 8100),
 };
 
+/// The hand anemometer of table 1 of 004: divisions a second against tenths of m/s.
+const RATES: [(i32, i32); 11] = [
+    (1, 13),
+    (2, 22),
+    (3, 31),
+    (4, 40),
+    (5, 49),
+    (6, 58),
+    (7, 67),
+    (8, 76),
+    (9, 85),
+    (10, 94),
+    (20, 188),
+];
+
 pub fn open_proved(barometer: &Barometer) -> Store {
     let certificate = barometer.points.map(|(reading, correction)| Point {
         reading,
@@ -40,6 +57,7 @@ pub fn open_proved(barometer: &Barometer) -> Store {
         coefficient: 24,
         psychrometer: 662,
         certificate: &certificate,
+        anemometer: &RATES.map(|(rate, speed)| AnemometerPoint { rate, speed }),
     };
     Store::open(&settings).expect("the settings are good")
 }
@@ -62,6 +80,7 @@ pub fn open_independent(barometer: &Barometer) -> station::Store {
         coefficient: 24,
         psychrometer: 662,
         certificate: &certificate,
+        anemometer: &RATES.map(|(rate, speed)| anemometer::RatePoint { rate, speed }),
     };
     station::Store::open(&settings).expect("the settings are good")
 }
@@ -164,6 +183,40 @@ pub fn watch(barometer: &Barometer, bulbs: &Bulbs, minutes: u32, step: u32) -> V
         sent.push(wet);
     }
     sent
+}
+
+/// The ship's motion of so many minutes, no more than are kept.
+pub fn courses(minutes: u32) -> Vec<Message> {
+    (0..minutes)
+        .map(|t| message(3, t, 12.5, scattered(t + 9, 361) as f32))
+        .collect()
+}
+
+pub type Entries = (Vec<Entry>, Vec<anemometer::Entry>);
+
+/// An entry for each of so many minutes, at rates with no pattern: of so many divisions within a minute, from the least to the most.
+pub fn entries(minutes: u32, (least, most): (u32, u32)) -> Entries {
+    (0..minutes)
+        .map(|t| {
+            let first = scattered(t + 1, 10_000);
+            let turns = least + scattered(t + 5, most - least + 1);
+            let mine = Entry {
+                minute: t,
+                direction: scattered(t + 7, 361),
+                first,
+                second: (first + turns) % 10_000,
+                seconds: 60,
+            };
+            let theirs = anemometer::Entry {
+                minute: mine.minute,
+                direction: mine.direction,
+                first: mine.first,
+                second: mine.second,
+                seconds: mine.seconds,
+            };
+            (mine, theirs)
+        })
+        .unzip()
 }
 
 pub type Records = (Vec<proved::Record>, Vec<independent::Record>);

@@ -10,9 +10,9 @@ use std::hint::black_box;
 use std::time::Instant;
 
 use inputs::{Barometer, Bulbs, Message, CROSSED, HPA, ICE, MM_HG, NARROW, UNKNOWN, WATER};
-use reference::{listing, station, watchfile as independent};
+use reference::{anemometer, listing, station, watchfile as independent};
 use zhitomrak::watchfile as proved;
-use zhitomrak::{raw, Store};
+use zhitomrak::{raw, Entry, Store};
 
 const ROUNDS: usize = 60;
 
@@ -119,6 +119,56 @@ fn not_later(refused: u32, sent: &[Message], again: &[Message]) {
         || hear_proved(&mut a, again),
         || hear_independent(&mut b, again),
     );
+}
+
+/// Entries are noted for minutes whose course was heard: no more at a time than are kept, so in more rounds.
+const NOTED: u32 = 250;
+
+fn note_proved(store: &mut Store, entries: &[Entry]) -> u64 {
+    entries
+        .iter()
+        .map(|&entry| number(&store.note(black_box(entry)), |r| r.number()))
+        .map(u64::from)
+        .sum()
+}
+
+fn note_independent(store: &mut station::Store, entries: &[anemometer::Entry]) -> u64 {
+    entries
+        .iter()
+        .map(|entry| number(&store.note(black_box(entry)), |r| u32::from(r.number())))
+        .map(u64::from)
+        .sum()
+}
+
+/// Notes entries of so many divisions a minute: all of them noted where the number is 0, and refused by it else.
+fn noting(name: &str, refused: u32, divisions: (u32, u32)) {
+    let (mut fresh_a, mut fresh_b) = (inputs::open_proved(&HPA), inputs::open_independent(&HPA));
+    let sent = inputs::courses(NOTED);
+    same(
+        name,
+        hear_proved(&mut fresh_a, &sent),
+        hear_independent(&mut fresh_b, &sent),
+    );
+    let (mine, theirs) = inputs::entries(NOTED, divisions);
+    let (mut a, mut b) = (fresh_a.clone(), fresh_b.clone());
+    for (minute, (mine, theirs)) in (0..).zip(mine.iter().zip(&theirs)) {
+        let told = (a.note(*mine), b.note(theirs));
+        same(name, number(&told.0, |r| r.number()), refused);
+        same(name, number(&told.1, |r| u32::from(r.number())), refused);
+        same(
+            name,
+            a.wind(minute).ok().map(|w| (w.speed, w.direction)),
+            b.wind(minute).ok().map(|w| (w.speed, w.direction)),
+        );
+    }
+    let (mut proved, mut plain) = (f64::MAX, f64::MAX);
+    for _ in 0..50 * ROUNDS {
+        a.clone_from(&fresh_a);
+        proved = proved.min(time(mine.len(), || note_proved(&mut a, &mine)));
+        b.clone_from(&fresh_b);
+        plain = plain.min(time(mine.len(), || note_independent(&mut b, &theirs)));
+    }
+    print_row(name, proved, plain);
 }
 
 /// The same messages so many minutes later.
@@ -405,6 +455,8 @@ fn main() {
     for count in [1, 16, 256, 2048] {
         stores(count);
     }
+    noting("note", 0, (60, 1_200));
+    noting("note, refused 24", 24, (1_201, 9_999));
     questions();
     for count in [0, 1, 4, 16, 48] {
         files(count);

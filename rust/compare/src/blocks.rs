@@ -1,11 +1,18 @@
-//! One block of memory on each side, from its first zeros on: openings, right and wrong, messages and questions come in any order, so
-//! also before any opening and after those that were refused. What is refused leaves every word as it was. And blocks that no hearing
-//! made: a word of the wet bulb's window says any state.
+//! One block of memory on each side, from its first zeros on: openings, right and wrong, messages, entries and questions come in any
+//! order, so also before any opening and after those that were refused. What is refused leaves every word as it was. And blocks that no
+//! hearing made: a word of the wet bulb's window says any state, a word of the ship's motion any course, and the words of the hand
+//! anemometer's certificate anything at all.
 
+use reference::anemometer::from_bow;
+use reference::rounding::nearest;
 use reference::station;
 use zhitomrak::raw;
 
-use crate::pair::{independent, message, not_later, Chosen};
+use crate::dial;
+use crate::pair::{
+    hear_line, independent, message, not_later, note_line, tenths, their_entry, Chosen, Noted,
+    TABLE_1,
+};
 use crate::random::Random;
 use crate::tally::{Answer, Tally, To};
 use crate::watches::chosen;
@@ -23,6 +30,43 @@ fn heard(told: raw::Heard) -> Answer {
         (0, 0) => Answer::Given([0; 5]),
         (number, late) => Answer::Refused(number, late as usize, 0),
     }
+}
+
+/// What an entry came to; channel, minute and minutes beside any number are compared.
+fn noted(told: raw::Noted) -> Answer {
+    let (channel, minute, late) = (
+        told.channel as usize,
+        told.minute as usize,
+        told.late as usize,
+    );
+    match (told.number, channel, minute, late) {
+        (0, 0, 0, 0) => Answer::Given([0; 5]),
+        (11, channel, minute, 0) => Answer::Refused(11, channel, minute),
+        (number, 0, 0, late) => Answer::Refused(number, late, 0),
+        (number, ..) => Answer::Refused(number, usize::MAX, usize::MAX),
+    }
+}
+
+fn my_entry([minute, direction, first, second, seconds]: Noted) -> raw::Entry {
+    raw::Entry {
+        minute,
+        direction,
+        first,
+        second,
+        seconds,
+    }
+}
+
+/// The anemometer's certificate as C has it: the points that there is room for, and how many there are.
+fn anemometer(rates: &[(i32, i32)]) -> raw::Anemometer {
+    let mut told = raw::Anemometer {
+        count: rates.len() as u32,
+        ..Default::default()
+    };
+    for (to, &(rate, speed)) in told.points.iter_mut().zip(rates) {
+        *to = raw::AnemometerPoint { rate, speed };
+    }
+    told
 }
 
 /// What a question came to: figures, each of which fits 32 bits, or the refusal with its channel and minute.
@@ -84,21 +128,34 @@ impl Both {
                 psychrometer: chosen.psychrometer,
                 count: chosen.points.len() as u32,
                 points,
+                anemometer: anemometer(&chosen.rates),
             },
         );
         let b = chosen.independent(|settings| self.independent.open(settings));
         let b = independent(b, |()| [0; 5]);
-        tally.answers("blocks, opened", opened(a), b, || self.told.clone());
+        tally.answers_to(To::Opening, "blocks, opened", opened(a), b, || {
+            self.told.clone()
+        });
         self.left_alone(tally, b, &was[..]);
     }
 
     fn hear(&mut self, tally: &mut Tally, message: &[u8]) {
-        let hex: String = message.iter().map(|b| format!("{b:02x}")).collect();
-        self.told += &format!("hear {hex}\n");
+        self.told += &hear_line(message);
         let was = self.proved.clone();
         let a = raw::hear(&mut self.proved, message);
         let b = independent(self.independent.hear(message), |()| [0; 5]);
         tally.answers_to(To::Message, "blocks, heard", heard(a), b, || {
+            self.told.clone()
+        });
+        self.left_alone(tally, b, &was[..]);
+    }
+
+    fn note(&mut self, tally: &mut Tally, entry: Noted) {
+        self.told += &note_line(entry);
+        let was = self.proved.clone();
+        let a = raw::note(&mut self.proved, my_entry(entry));
+        let b = independent(self.independent.note(&their_entry(entry)), |()| [0; 5]);
+        tally.answers_to(To::Entry, "blocks, noted", noted(a), b, || {
             self.told.clone()
         });
         self.left_alone(tally, b, &was[..]);
@@ -161,9 +218,13 @@ fn reading(r: &mut Random, channel: u8, minute: u32) -> [u8; 16] {
     message(channel, minute, first, second)
 }
 
-/// The word of a minute's wet bulb (docs/FORMAT.md, "The block of a store").
-fn wet_cell(minute: u32) -> usize {
-    22 + 261 * 5 + 5 + minute as usize % 256
+/// The block's words (docs/FORMAT.md, "The block of a store"): how many points the anemometer's certificate has, and the first of them.
+const RATES: usize = 22;
+const FIRST_RATE: usize = RATES + 1;
+
+/// The word of a minute in a channel's window.
+fn cell(channel: usize, minute: u32) -> usize {
+    FIRST_RATE + raw::ANEMOMETER_POINTS + 261 * channel + 5 + minute as usize % 256
 }
 
 /// Blocks whose word of a wet bulb was written over with any state in its second 16 bits: one that there is counts as if a message had
@@ -183,7 +244,7 @@ pub fn other_origin(tally: &mut Tally, r: &mut Random, rounds: u64) {
         let wet = r.pick(&[15.0, -5.2, -4.9]);
         let water = raw::hear(&mut both.proved, &message(5, minute, wet, 0.0));
         if water.number == 0 {
-            both.proved[wet_cell(minute)] |= u64::from(state) << 16;
+            both.proved[cell(5, minute)] |= u64::from(state) << 16;
         }
         if state <= 2 {
             let said = message(5, minute, wet, f32::from(state));
@@ -195,13 +256,159 @@ pub fn other_origin(tally: &mut Tally, r: &mut Random, rounds: u64) {
     }
 }
 
+/// The speed that words of an anemometer's certificate give for so many divisions in so many seconds, whatever the words are: by the
+/// first two neighbours, the lower first, that stand round the rate. None where there are none, or where it leaves channel 2's limits.
+fn speed_by(words: &[u64], turns: i64, seconds: i64) -> Option<i64> {
+    let half = |word: u64| (word & 0xffff) as i64 - 32_768;
+    let count = words[0].min(raw::ANEMOMETER_POINTS as u64) as usize;
+    let points: Vec<(i64, i64)> = words[1..=count]
+        .iter()
+        .map(|&word| (half(word) * seconds, half(word >> 16)))
+        .collect();
+    points
+        .windows(2)
+        .map(|two| (two[0], two[1]))
+        .find(|(low, high)| low.0 < high.0 && (low.0..=high.0).contains(&turns))
+        .map(|(low, high)| {
+            let span = high.0 - low.0;
+            nearest(low.1 * span + (high.1 - low.1) * (turns - low.0), span)
+        })
+        .filter(|speed| (0..=750).contains(speed))
+}
+
+/// Words of a certificate: rates that rise or that do not, with speeds within their limits, near them and far from them; how many
+/// points there are said to be is any number.
+fn rate_words(r: &mut Random) -> [u64; 1 + raw::ANEMOMETER_POINTS] {
+    let rising = r.once_in(2);
+    let (most_rate, most_speed) = (
+        r.pick(&[20, 200, 9_999, 32_767]),
+        r.pick(&[750, 900, 32_767]),
+    );
+    let least_speed = r.pick(&[0, 0, -100, -32_768]);
+    let mut rates: Vec<i32> = (0..raw::ANEMOMETER_POINTS)
+        .map(|_| r.within(if rising { 0 } else { -most_rate }, most_rate))
+        .collect();
+    if rising {
+        rates.sort_unstable();
+    }
+    let any = r.next();
+    let mut words = [r.pick(&[2, 3, 11, 19, 20, 20, 21, 255, 1 << 32, u64::MAX, 0, 1, any]); 21];
+    for (word, rate) in words[1..].iter_mut().zip(rates) {
+        let half = |n: i32| (n + 32_768) as u64;
+        *word = half(rate) | half(r.within(least_speed, most_speed)) << 16;
+        if r.once_in(8) {
+            *word |= r.next() << 32;
+        }
+    }
+    if r.once_in(8) {
+        words[1..].fill_with(|| r.next());
+    }
+    words
+}
+
+/// Blocks whose words of the anemometer's certificate were written over, and whose word of the ship's motion says any course: one above
+/// 360 is missing. What is kept of an entry is looked at in its word, and asked for.
+pub fn other_anemometers(tally: &mut Tally, r: &mut Random, rounds: u64) {
+    for _ in 0..rounds {
+        let mut both = Both::new();
+        both.open(tally, &chosen(r));
+        let minute = r.pick(&[0, 63, 180, 255, 256, 1_000]);
+        let any = r.next() as u16;
+        let course = match r.below(4) {
+            0 => r.pick(&[0, 359, 360, 361, 720, 1 << 15, u16::MAX, any]),
+            _ => r.below(360) as u16,
+        };
+        let still = raw::hear(&mut both.proved, &tenths(3, minute, 100, 0));
+        let open = still.number == 0;
+        if open {
+            both.proved[cell(3, minute)] |= u64::from(course) << 16;
+            both.proved[RATES..FIRST_RATE + raw::ANEMOMETER_POINTS].copy_from_slice(&rate_words(r));
+        }
+        let seen = course <= 360;
+        if seen {
+            // not heard where no store was opened
+            let _ = both
+                .independent
+                .hear(&tenths(3, minute, 100, course.into()));
+        }
+        let rates: Vec<(i32, i32)> = both.proved[FIRST_RATE..][..raw::ANEMOMETER_POINTS]
+            .iter()
+            .map(|&word| ((word & 0xffff) as i32 - 32_768, 0))
+            .collect();
+        let [_, _, first, second, seconds] = dial::entry(r, &rates, minute);
+        let direction = r.pick(&[0, 1, 180, 359, 360, course.min(360).into()]);
+        let entry = [
+            minute,
+            direction,
+            first.min(9_999),
+            second.min(9_999),
+            seconds.clamp(1, 600),
+        ];
+        let turns = (entry[3] + 10_000 - entry[2]) % 10_000;
+        let words = both.proved[RATES..FIRST_RATE + raw::ANEMOMETER_POINTS].to_vec();
+        let speed = speed_by(&words, turns.into(), entry[4].into());
+        both.told += &format!(
+            "course {course}, the anemometer's words {words:x?}\n{}",
+            note_line(entry)
+        );
+        let expected = match speed {
+            _ if !open => Answer::Refused(raw::NO_STORE, 0, 0),
+            _ if !seen => Answer::Refused(11, 3, minute as usize),
+            None => Answer::Refused(24, 0, 0),
+            Some(_) => Answer::Given([0; 5]),
+        };
+        let was = both.proved.clone();
+        let a = raw::note(&mut both.proved, my_entry(entry));
+        let kind = "blocks, other anemometers";
+        tally.answers_to(To::Entry, kind, noted(a), expected, || both.told.clone());
+        both.left_alone(tally, expected, &was[..]);
+        if let (Answer::Given(_), Some(speed)) = (expected, speed) {
+            let ahead = from_bow(direction as i32, course as i16);
+            let kept = both.proved[cell(2, minute)];
+            let wanted = speed as u64 | (ahead as u64) << 16;
+            tally.same(kind, false, &kept, &wanted, || both.told.clone());
+            let _ = both
+                .independent
+                .hear(&tenths(2, minute, speed as i32, ahead.into()));
+        }
+        both.ask(tally, minute);
+    }
+}
+
+/// The word that is kept of an entry, for every compass direction with every course.
+pub fn directions(tally: &mut Tally) {
+    let mut both = Both::new();
+    both.open(tally, &Chosen::with_rates(&TABLE_1));
+    let mut minute = 0;
+    for course in 0..=360 {
+        for direction in 0..=360 {
+            minute += 1;
+            // 5 divisions a second are 4.9 m/s
+            let entry = [minute, direction, 9_900, 200, 60];
+            let heard = raw::hear(&mut both.proved, &tenths(3, minute, 0, course));
+            let told = raw::note(&mut both.proved, my_entry(entry));
+            let ahead = (direction as i32 - course + 720) % 360;
+            let kept = (heard.number, told.number, both.proved[cell(2, minute)]);
+            let wanted = (0, 0, 49 | (ahead as u64) << 16);
+            tally.same("blocks, directions", false, &kept, &wanted, || {
+                format!("course {course}, {}", note_line(entry))
+            });
+        }
+    }
+}
+
 pub fn compare(tally: &mut Tally, r: &mut Random, rounds: u64) {
     for _ in 0..rounds {
         let mut both = Both::new();
         let mut minute = r.pick(&[0, 179, 180, 1_000]);
+        let mut rates = Vec::new();
         for _ in 0..12 {
-            match r.below(5) {
-                0 => both.open(tally, &chosen(r)),
+            match r.below(6) {
+                0 => {
+                    let wanted = chosen(r);
+                    rates.clone_from(&wanted.rates);
+                    both.open(tally, &wanted);
+                }
                 1 | 2 => {
                     minute += r.below(2) as u32;
                     let late = r.once_in(4);
@@ -214,6 +421,18 @@ pub fn compare(tally: &mut Tally, r: &mut Random, rounds: u64) {
                     let length = r.pick(&[0, 15, 16, 17]);
                     let wrong: Vec<u8> = (0..length).map(|_| r.next() as u8).collect();
                     both.hear(tally, &wrong);
+                }
+                4 => {
+                    minute += r.below(2) as u32;
+                    if !r.once_in(3) {
+                        both.hear(tally, &reading(r, 3, minute));
+                    }
+                    let noted_for = if r.once_in(6) {
+                        not_later(r, minute)
+                    } else {
+                        minute
+                    };
+                    both.note(tally, dial::entry(r, &rates, noted_for));
                 }
                 _ => both.ask(tally, r.pick(&[minute, minute, 0, 180, u32::MAX])),
             }

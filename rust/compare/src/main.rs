@@ -4,6 +4,7 @@
 //! usage: compare [--long] [--only KIND] [SEED]
 
 mod blocks;
+mod dial;
 mod files;
 mod heights;
 mod humidity;
@@ -46,11 +47,19 @@ fn main() {
     watches::compare(&mut tally, &mut r, 100 * times);
     heights::compare(&mut tally);
     wind::compare(&mut tally, &mut r, 100_000 * times, 400 * times);
+    dial::certificates(&mut tally);
+    dial::edges(&mut tally, &mut r, times);
+    dial::lines(&mut tally, &mut r, times);
+    dial::limits(&mut tally);
+    dial::directions(&mut tally);
+    dial::silences(&mut tally);
     humidity::dew_points(&mut tally);
     humidity::pairs(&mut tally);
     files::compare(&mut tally, &mut r, 10_000 * times);
     files::damage(&mut tally, &mut r, 4 * times);
     blocks::compare(&mut tally, &mut r, 1_000 * times);
     blocks::other_origin(&mut tally, &mut r, 1_000 * times);
+    blocks::other_anemometers(&mut tally, &mut r, 2_000 * times);
+    blocks::directions(&mut tally);
     tally.print();
 }

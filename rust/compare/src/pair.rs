@@ -1,8 +1,8 @@
 //! A store of each side, opened alike and told the same.
 
 use reference::refusal::Refused as Independent;
-use reference::{settings, station};
-use zhitomrak::{Point, Refused, Settings, Store, Unit};
+use reference::{anemometer, settings, station};
+use zhitomrak::{AnemometerPoint, Entry, Point, Refused, Settings, Store, Unit};
 
 use crate::random::Random;
 use crate::tally::{Answer, Tally, To};
@@ -28,10 +28,27 @@ pub struct Chosen {
     pub coefficient: i32,
     pub psychrometer: i32,
     pub points: Vec<(i32, i32)>,
+    /// The hand anemometer's: rates and speeds.
+    pub rates: Vec<(i32, i32)>,
 }
 
+/// Table 1 of 004, section 7.2: the certificate of a hand anemometer.
+pub const TABLE_1: [(i32, i32); 11] = [
+    (1, 13),
+    (2, 22),
+    (3, 31),
+    (4, 40),
+    (5, 49),
+    (6, 58),
+    (7, 67),
+    (8, 76),
+    (9, 85),
+    (10, 94),
+    (20, 188),
+];
+
 impl Chosen {
-    /// Corrections that leave the reading as it is.
+    /// Corrections that leave the reading as it is, and no hand anemometer.
     pub fn plain(mm_hg: bool) -> Chosen {
         let (low, high) = barometer(mm_hg);
         Chosen {
@@ -41,6 +58,15 @@ impl Chosen {
             coefficient: 0,
             psychrometer: 662,
             points: vec![(low, 0), (high, 0)],
+            rates: Vec::new(),
+        }
+    }
+
+    /// The same with a hand anemometer.
+    pub fn with_rates(rates: &[(i32, i32)]) -> Chosen {
+        Chosen {
+            rates: rates.to_vec(),
+            ..Chosen::plain(false)
         }
     }
 
@@ -54,6 +80,11 @@ impl Chosen {
                 correction,
             })
             .collect();
+        let anemometer: Vec<anemometer::RatePoint> = self
+            .rates
+            .iter()
+            .map(|&(rate, speed)| anemometer::RatePoint { rate, speed })
+            .collect();
         open(&settings::Settings {
             unit: if self.mm_hg {
                 settings::Unit::MmHg
@@ -65,19 +96,26 @@ impl Chosen {
             coefficient: self.coefficient,
             psychrometer: self.psychrometer,
             certificate: &certificate,
+            anemometer: &anemometer,
         })
     }
 
     pub fn line(&self) -> String {
         let unit = if self.mm_hg { "mmHg" } else { "hPa" };
-        let points: String = self
-            .points
-            .iter()
-            .map(|(r, c)| format!(" {r}:{c}"))
-            .collect();
+        let list = |pairs: &[(i32, i32)]| -> String {
+            pairs.iter().map(|(a, b)| format!(" {a}:{b}")).collect()
+        };
+        let anemometer = match &self.rates[..] {
+            [] => String::new(),
+            rates => format!(" anemometer{}", list(rates)),
+        };
         format!(
-            "open {unit} {} {} {} {}{points}",
-            self.height, self.difference, self.coefficient, self.psychrometer
+            "open {unit} {} {} {} {}{}{anemometer}",
+            self.height,
+            self.difference,
+            self.coefficient,
+            self.psychrometer,
+            list(&self.points)
         )
     }
 }
@@ -119,13 +157,45 @@ pub fn independent<T>(
     answer.map_or_else(independent_refusal, |a| Answer::Given(figures(a)))
 }
 
+/// An entry of the hand anemometer: minute, compass direction, first and second dial, seconds.
+pub type Noted = [u32; 5];
+
+/// The entry as the independent side has it.
+pub fn their_entry([minute, direction, first, second, seconds]: Noted) -> anemometer::Entry {
+    anemometer::Entry {
+        minute,
+        direction,
+        first,
+        second,
+        seconds,
+    }
+}
+
+/// The command of an entry.
+pub fn note_line([minute, direction, first, second, seconds]: Noted) -> String {
+    format!("note {minute} {direction} {first} {second} {seconds}\n")
+}
+
+/// The command of a message.
+pub fn hear_line(message: &[u8]) -> String {
+    let hex: String = message.iter().map(|b| format!("{b:02x}")).collect();
+    format!("hear {hex}\n")
+}
+
+/// What a store was told.
+#[derive(Clone)]
+enum Told {
+    Message(Vec<u8>),
+    Entry(Noted),
+}
+
 /// The two stores, and what they were told since they were opened.
 #[derive(Clone)]
 pub struct Pair {
     proved: Store,
     independent: station::Store,
     opened: String,
-    heard: Vec<Vec<u8>>,
+    told: Vec<Told>,
 }
 
 impl Pair {
@@ -139,6 +209,11 @@ impl Pair {
                 correction,
             })
             .collect();
+        let anemometer: Vec<AnemometerPoint> = chosen
+            .rates
+            .iter()
+            .map(|&(rate, speed)| AnemometerPoint { rate, speed })
+            .collect();
         let a = Store::open(&Settings {
             unit: if chosen.mm_hg {
                 Unit::Millimetres
@@ -150,10 +225,12 @@ impl Pair {
             coefficient: chosen.coefficient,
             psychrometer: chosen.psychrometer,
             certificate: &certificate,
+            anemometer: &anemometer,
         });
         let b = chosen.independent(station::Store::open);
         let told = |err: Option<Answer>| err.unwrap_or(Answer::Given([0; 5]));
-        tally.answers(
+        tally.answers_to(
+            To::Opening,
             "open",
             told(a.as_ref().err().map(|&r| proved_refusal(r))),
             told(b.as_ref().err().map(|&r| independent_refusal(r))),
@@ -163,32 +240,47 @@ impl Pair {
             proved: a.ok()?,
             independent: b.ok()?,
             opened: chosen.line(),
-            heard: Vec::new(),
+            told: Vec::new(),
         })
     }
 
     /// The commands of the console that lead here.
     fn script(&self, last: String) -> String {
-        let hex = |message: &Vec<u8>| {
-            message
-                .iter()
-                .map(|b| format!("{b:02x}"))
-                .collect::<String>()
-        };
-        let heard: String = self
-            .heard
+        let told: String = self
+            .told
             .iter()
-            .map(|m| format!("hear {}\n", hex(m)))
+            .map(|told| match told {
+                Told::Message(message) => hear_line(message),
+                Told::Entry(entry) => note_line(*entry),
+            })
             .collect();
-        format!("{}\n{heard}{last}", self.opened)
+        format!("{}\n{told}{last}", self.opened)
     }
 
     /// Whether the message was heard, which is compared.
     pub fn hear(&mut self, tally: &mut Tally, kind: &'static str, message: &[u8]) -> bool {
-        self.heard.push(message.to_vec());
+        self.told.push(Told::Message(message.to_vec()));
         let a = proved(self.proved.hear(message), |()| [0; 5]);
         let b = independent(self.independent.hear(message), |()| [0; 5]);
         tally.answers_to(To::Message, kind, a, b, || self.script(String::new()));
+        matches!(b, Answer::Given(_))
+    }
+
+    /// Whether the entry was noted, which is compared.
+    pub fn note(&mut self, tally: &mut Tally, kind: &'static str, entry: Noted) -> bool {
+        self.told.push(Told::Entry(entry));
+        let [minute, direction, first, second, seconds] = entry;
+        let mine = Entry {
+            minute,
+            direction,
+            first,
+            second,
+            seconds,
+        };
+        let a = proved(self.proved.note(mine), |()| [0; 5]);
+        let b = self.independent.note(&their_entry(entry));
+        let b = independent(b, |()| [0; 5]);
+        tally.answers_to(To::Entry, kind, a, b, || self.script(String::new()));
         matches!(b, Answer::Given(_))
     }
 
@@ -247,13 +339,13 @@ impl Pair {
     pub fn back_to(&mut self, before: &Pair) {
         self.proved.clone_from(&before.proved);
         self.independent.clone_from(&before.independent);
-        self.heard.truncate(before.heard.len());
+        self.told.truncate(before.told.len());
     }
 
-    /// Only the last n messages still matter, so no more of them are remembered.
+    /// Only the last n messages and entries still matter, so no more of them are remembered.
     pub fn forget_but(&mut self, n: usize) {
-        if self.heard.len() > 2 * n {
-            self.heard.drain(..self.heard.len() - n);
+        if self.told.len() > 2 * n {
+            self.told.drain(..self.told.len() - n);
         }
     }
 }

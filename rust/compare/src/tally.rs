@@ -13,14 +13,18 @@ pub enum Answer {
 /// What a store answers.
 #[derive(Clone, Copy)]
 pub enum To {
+    Opening,
     Message,
+    Entry,
     Question,
 }
 
-/// The refusals that messages can get from an opened store, and those that questions can.
-const REFUSALS: [(&str, [u32; 9]); 2] = [
-    ("messages", [1, 2, 3, 4, 5, 6, 7, 8, 19]),
-    ("questions", [5, 11, 12, 13, 14, 15, 20, 21, 22]),
+/// The refusals that settings can get, and those that messages, entries and questions can from an opened store.
+const REFUSALS: [(&str, &[u32]); 4] = [
+    ("openings", &[9, 10, 25]),
+    ("messages", &[1, 2, 3, 4, 5, 6, 7, 8, 19]),
+    ("entries", &[5, 7, 8, 11, 19, 23, 24]),
+    ("questions", &[5, 11, 12, 13, 14, 15, 20, 21, 22]),
 ];
 
 #[derive(Default)]
@@ -33,7 +37,7 @@ pub struct Tally {
     seed: u64,
     only: Option<String>,
     counts: BTreeMap<&'static str, Count>,
-    refused: [BTreeMap<u32, u64>; 2],
+    refused: [BTreeMap<u32, u64>; 4],
 }
 
 impl Tally {
@@ -97,7 +101,7 @@ impl Tally {
         );
     }
 
-    /// The same of what a message or a question came to, which is counted by its number too.
+    /// The same of what an opening, a message, an entry or a question came to, which is counted by its number too.
     #[inline]
     pub fn answers_to(
         &mut self,
@@ -113,7 +117,7 @@ impl Tally {
         self.answers(kind, proved, independent, input);
     }
 
-    /// Ends the run as failed where a refusal of messages or of questions was never met: nothing was compared there.
+    /// Ends the run as failed where a refusal of any of the four was never met: nothing was compared there.
     pub fn print(&self) {
         println!("{:26} {:>12} {:>12}", "", "compared", "refused");
         for (kind, count) in &self.counts {

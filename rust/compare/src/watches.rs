@@ -1,5 +1,6 @@
 //! Whole watches of several stores, interleaved, and questions at every kind of minute.
 
+use crate::dial;
 use crate::pair::{barometer, not_later, tenths, Chosen, Pair, LAST};
 use crate::random::Random;
 use crate::tally::Tally;
@@ -36,6 +37,10 @@ pub fn chosen(r: &mut Random) -> Chosen {
         .iter()
         .map(|&reading| (reading, value(r, -50, 50)))
         .collect();
+    let mut rates = dial::rates(r);
+    if r.once_in(8) {
+        dial::spoil(r, &mut rates);
+    }
     Chosen {
         mm_hg,
         height,
@@ -43,6 +48,7 @@ pub fn chosen(r: &mut Random) -> Chosen {
         coefficient,
         psychrometer,
         points,
+        rates,
     }
 }
 
@@ -57,6 +63,7 @@ struct Ship {
     pair: Pair,
     mm_hg: bool,
     points: (i32, i32),
+    rates: Vec<(i32, i32)>,
     newest: [u32; 6],
     clock: u32,
 }
@@ -72,6 +79,7 @@ impl Ship {
                     pair,
                     mm_hg: wanted.mm_hg,
                     points,
+                    rates: wanted.rates,
                     newest: [0; 6],
                     clock,
                 };
@@ -119,7 +127,23 @@ impl Ship {
         );
     }
 
-    /// One turn of a watch: time passes, some instruments send, some of what they send comes late or again.
+    /// The mate notes the wind, mostly for the minute that it is.
+    fn note(&mut self, tally: &mut Tally, r: &mut Random) {
+        let newest = self.newest[2];
+        let minute = match r.below(16) {
+            0 => not_later(r, newest),
+            1 => self.clock.saturating_sub(r.below(4) as u32),
+            2 => self.clock + 1,
+            _ => self.clock,
+        };
+        let entry = dial::entry(r, &self.rates, minute);
+        if self.pair.note(tally, "watches, noted", entry) {
+            self.newest[2] = minute;
+        }
+    }
+
+    /// One turn of a watch: time passes, some instruments send, some of what they send comes late or again. The wind comes from its
+    /// head, or by hand: mostly after the course, which it needs, and now and then before it, or both.
     fn turn(&mut self, tally: &mut Tally, r: &mut Random) {
         let passes = match r.below(40) {
             0 => 100 + r.below(200) as u32,
@@ -129,8 +153,13 @@ impl Ship {
         };
         self.clock = (self.clock + passes).min(LAST + 1);
         let quiet = r.once_in(6);
+        let by_hand = r.once_in(3);
         for channel in 0..4 {
-            if !(quiet && r.once_in(2)) {
+            if channel == 2 && by_hand {
+                if r.once_in(8) {
+                    self.note(tally, r);
+                }
+            } else if !(quiet && r.once_in(2)) {
                 let minute = if r.once_in(20) {
                     self.clock.saturating_sub(r.below(4) as u32)
                 } else {
@@ -139,6 +168,9 @@ impl Ship {
                 let reading = self.reading(r, channel);
                 self.send(tally, channel, minute, reading);
             }
+        }
+        if by_hand || r.once_in(20) {
+            self.note(tally, r);
         }
         if !quiet {
             self.bulbs(tally, r);

@@ -1,15 +1,19 @@
 //! The station at a prompt: one command a line, one answer a line.
 //!
 //! ```text
-//! open UNIT H DIFFERENCE COEFFICIENT A READING:CORRECTION ...
+//! open UNIT H DIFFERENCE COEFFICIENT A READING:CORRECTION ... anemometer RATE:SPEED ...
 //! hear HEX
+//! note M DIRECTION FIRST SECOND SECONDS
 //! pressure M | tendency M | wind M | humidity M
 //! read HEX
 //! write ROOM P:M:p T:M:change:absent W:M:speed:direction H:M:e:E:d:rh:dew ...
 //! ```
+//!
+//! Of `open` the word `anemometer` and what follows may be left out.
 
 use std::fmt::Display;
 
+use crate::anemometer::{Entry, RatePoint};
 use crate::humidity::Humidity;
 use crate::listing::{list, LONGEST_LISTING};
 use crate::pressure::Tendency;
@@ -43,6 +47,7 @@ impl Console {
         let answer = match command {
             "open" => self.open(&words),
             "hear" => self.hear(&words),
+            "note" => self.note(&words),
             "pressure" | "tendency" | "wind" | "humidity" => self.ask(command, &words),
             "read" => read(&words),
             "write" => write(&words),
@@ -56,7 +61,11 @@ impl Console {
         let [unit, height, difference, coefficient, psychrometer, points @ ..] = words else {
             return None;
         };
-        let certificate: Vec<Point> = points.iter().map(|p| point(p)).collect::<Option<_>>()?;
+        let mut lists = points.splitn(2, |word| *word == "anemometer");
+        let [readings, rates] = [lists.next(), lists.next()].map(Option::unwrap_or_default);
+        let certificate: Vec<Point> = readings.iter().map(|p| point(p)).collect::<Option<_>>()?;
+        let anemometer: Vec<RatePoint> =
+            rates.iter().map(|p| rate_point(p)).collect::<Option<_>>()?;
         let settings = Settings {
             unit: match *unit {
                 "hPa" => Unit::HPa,
@@ -68,6 +77,7 @@ impl Console {
             coefficient: whole(coefficient)?,
             psychrometer: whole(psychrometer)?,
             certificate: &certificate,
+            anemometer: &anemometer,
         };
         Some(match Store::open(&settings) {
             Ok(store) => {
@@ -89,9 +99,30 @@ impl Console {
         })
     }
 
+    fn note(&mut self, words: &[&str]) -> Option<String> {
+        let numbers: Vec<u32> = words.iter().map(|w| count(w)).collect::<Option<_>>()?;
+        let [minute, direction, first, second, seconds] = numbers[..] else {
+            return None;
+        };
+        let entry = Entry {
+            minute,
+            direction,
+            first,
+            second,
+            seconds,
+        };
+        let Some(store) = &mut self.store else {
+            return Some(no_store());
+        };
+        Some(match store.note(&entry) {
+            Ok(()) => said("noted"),
+            Err(refused) => said(refused),
+        })
+    }
+
     fn ask(&self, question: &str, words: &[&str]) -> Option<String> {
         let [minute] = words else { return None };
-        let minute = minute_of(minute)?;
+        let minute = count(minute)?;
         let Some(store) = &self.store else {
             return Some(no_store());
         };
@@ -175,21 +206,33 @@ fn whole(word: &str) -> Option<i32> {
     Some(word.parse().unwrap_or(end))
 }
 
-/// A minute, not signed; see [`whole`] for one too large.
-fn minute_of(word: &str) -> Option<u32> {
+/// A minute or what is noted, not signed; see [`whole`] for one too large.
+fn count(word: &str) -> Option<u32> {
     if word.is_empty() || !word.bytes().all(|digit| digit.is_ascii_digit()) {
         return None;
     }
     Some(word.parse().unwrap_or(u32::MAX))
 }
 
+/// Two whole numbers with a colon between.
+fn pair(word: &str) -> Option<(i32, i32)> {
+    let (left, right) = word.split_once(':')?;
+    Some((whole(left)?, whole(right)?))
+}
+
 /// `READING:CORRECTION`.
 fn point(word: &str) -> Option<Point> {
-    let (reading, correction) = word.split_once(':')?;
+    let (reading, correction) = pair(word)?;
     Some(Point {
-        reading: whole(reading)?,
-        correction: whole(correction)?,
+        reading,
+        correction,
     })
+}
+
+/// `RATE:SPEED`.
+fn rate_point(word: &str) -> Option<RatePoint> {
+    let (rate, speed) = pair(word)?;
+    Some(RatePoint { rate, speed })
 }
 
 /// The bytes of at most one word of hexadecimal digits.
@@ -235,7 +278,7 @@ fn record(word: &str) -> Option<Record> {
         _ => return None,
     };
     Some(Record {
-        minute: minute_of(minute)?,
+        minute: count(minute)?,
         body,
     })
 }

@@ -1,8 +1,8 @@
 //! A ship's weather station in plain Rust, written from the documents alone:
-//! 01, as W1 to W3 of 02 change it.
+//! 01, as W1 to W5 of 02 change it.
 //!
-//! Readings come in as messages, are kept by minute, and are worked into four
-//! kinds of answer: pressure, tendency, true wind, humidity. Answers are stored
+//! Readings come in as messages, and the wind as a mate's entries too, are kept by
+//! minute, and are worked into four kinds of answer: pressure, tendency, true wind, humidity. Answers are stored
 //! in a watch file, which a program lists.
 //!
 //! All quantities are whole numbers of the last place that document 01 shows:
@@ -16,6 +16,7 @@
 #![forbid(unsafe_code)]
 #![deny(missing_docs)]
 
+pub mod anemometer;
 pub mod console;
 pub mod humidity;
 pub mod listing;

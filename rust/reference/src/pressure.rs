@@ -142,6 +142,7 @@ mod tests {
                 reading,
                 correction: 0,
             }),
+            anemometer: &[],
         };
         sea_level(&Instruments::new(&settings).unwrap(), reading, 0).unwrap()
     }
@@ -179,6 +180,7 @@ mod tests {
             coefficient: 24,
             psychrometer: 662,
             certificate: &points,
+            anemometer: &[],
         };
         let instruments = Instruments::new(&settings).unwrap();
         assert_eq!(sea_level(&instruments, 7419, 124), Some(9900));

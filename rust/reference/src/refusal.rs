@@ -70,6 +70,13 @@ pub enum Refused {
         /// field is cut short, or the first extra byte."
         place: usize,
     },
+    /// 23: "seconds or dial outside limits".
+    Dial,
+    /// 24: "rate outside the certificate, or the store has none".
+    Rate,
+    /// 25: the anemometer's certificate "breaks its rules, or its speeds leave channel
+    /// 2's limits", "tested at opening after 10".
+    Anemometer,
     /// 255, which the documents do not have: memory that was never opened is
     /// asked or told something.
     NoStore,
@@ -102,6 +109,9 @@ impl Refused {
             Refused::Record { .. } => 16,
             Refused::Room { .. } => 17,
             Refused::Broken { .. } => 18,
+            Refused::Dial => 23,
+            Refused::Rate => 24,
+            Refused::Anemometer => 25,
             Refused::NoStore => 255,
         }
     }
@@ -154,6 +164,9 @@ mod tests {
             (Refused::Record { index: 48 }, "refused 16 48"),
             (Refused::Room { needed: 4 }, "refused 17 4"),
             (Refused::Broken { place: 41 }, "refused 18 at 41"),
+            (Refused::Dial, "refused 23"),
+            (Refused::Rate, "refused 24"),
+            (Refused::Anemometer, "refused 25"),
             (Refused::NoStore, "refused 255"),
         ];
         for (refused, line) in lines {

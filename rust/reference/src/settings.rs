@@ -1,8 +1,9 @@
-//! What is fixed when a store is opened: unit, heights, coefficients and the
-//! barometer's certificate. Refusals 9 and 10.
+//! What is fixed when a store is opened: unit, heights, coefficients, the
+//! barometer's certificate and the hand anemometer's. Refusals 9, 10 and 25.
 
 use std::ops::RangeInclusive;
 
+use crate::anemometer::{Anemometer, RatePoint};
 use crate::message;
 use crate::refusal::Refused;
 
@@ -55,6 +56,9 @@ pub struct Settings<'points> {
     pub psychrometer: i32,
     /// The certificate's points.
     pub certificate: &'points [Point],
+    /// The points of the hand anemometer's; none where the ship has no such
+    /// instrument.
+    pub anemometer: &'points [RatePoint],
 }
 
 /// A certificate that keeps its rules.
@@ -106,10 +110,12 @@ pub struct Instruments {
     pub psychrometer: i32,
     /// The barometer's certificate.
     pub certificate: Certificate,
+    /// The hand anemometer's.
+    pub anemometer: Anemometer,
 }
 
 impl Instruments {
-    /// "Settings test in number order": 9, then 10.
+    /// "Settings test in number order": 9, then 10, then 25.
     pub fn new(settings: &Settings) -> Result<Instruments, Refused> {
         let right = HEIGHT.contains(&settings.height)
             && DIFFERENCE.contains(&settings.difference)
@@ -125,6 +131,7 @@ impl Instruments {
             coefficient: settings.coefficient,
             psychrometer: settings.psychrometer,
             certificate: Certificate::new(settings.certificate, settings.unit)?,
+            anemometer: Anemometer::new(settings.anemometer)?,
         })
     }
 }
@@ -159,6 +166,7 @@ mod tests {
             coefficient,
             psychrometer,
             certificate: &PLAIN,
+            anemometer: &[],
         };
         Instruments::new(&settings).err().map(Refused::number)
     }
@@ -236,15 +244,23 @@ mod tests {
     }
 
     #[test]
-    fn nine_is_tested_before_ten() {
-        let settings = Settings {
+    fn nine_is_tested_before_ten_and_ten_before_twenty_five() {
+        let one_point = [RatePoint::default()];
+        let mut settings = Settings {
             unit: Unit::HPa,
             height: 601,
             difference: 0,
             coefficient: 0,
             psychrometer: USUAL_PSYCHROMETER,
             certificate: &[],
+            anemometer: &one_point,
         };
         assert_eq!(Instruments::new(&settings), Err(Refused::Setting));
+        settings.height = 600;
+        assert_eq!(Instruments::new(&settings), Err(Refused::Certificate));
+        settings.certificate = &PLAIN;
+        assert_eq!(Instruments::new(&settings), Err(Refused::Anemometer));
+        settings.anemometer = &[];
+        assert!(Instruments::new(&settings).is_ok());
     }
 }

@@ -1,5 +1,7 @@
-//! What a ship calls: open a store, hear messages, ask the four questions.
+//! What a ship calls: open a store, hear messages, note entries of the hand
+//! anemometer, ask the four questions.
 
+use crate::anemometer::{from_bow, Entry};
 use crate::humidity::{Humidity, Psychrometer};
 use crate::message::{self, ApparentWind, Reading, ShipMotion, WetBulb, LAST_MINUTE};
 use crate::pressure::{self, Tendency};
@@ -25,7 +27,7 @@ pub struct Store {
 }
 
 impl Store {
-    /// An empty store with these settings, or refusal 9 or 10: "a refused opening
+    /// An empty store with these settings, or refusal 9, 10 or 25: "a refused opening
     /// gives no store".
     pub fn open(settings: &Settings) -> Result<Store, Refused> {
         Ok(Store {
@@ -55,6 +57,24 @@ impl Store {
             Reading::DryBulb(value) => self.dry_bulb.accept(minute, value),
             Reading::WetBulb(value) => self.wet_bulb.accept(minute, value),
         }
+    }
+
+    /// Keeps the apparent wind of an entry, "a second way to feed channel 2", or the
+    /// first refusal whose reason holds, and then nothing has changed: "an entry tests
+    /// 5, 7 for the direction, 8, 19, 23, then 11 for the course, then 24".
+    #[inline]
+    pub fn note(&mut self, entry: &Entry) -> Result<(), Refused> {
+        let minute = entry.minute;
+        asked(minute)?;
+        let compass = entry.compass()?;
+        self.apparent_wind.passed(minute)?;
+        let rate = entry.rate()?;
+        let ship = heard(&self.ship_motion, 3, minute)?;
+        let wind = ApparentWind {
+            speed: self.instruments.anemometer.speed(rate)?,
+            from_bow: from_bow(compass, ship.course),
+        };
+        self.apparent_wind.accept(minute, wind)
     }
 
     /// Sea level pressure at a minute, tenths hPa; refusals 5, 11, 12.
@@ -141,8 +161,8 @@ pub struct Memory {
 }
 
 impl Memory {
-    /// An empty store with these settings in place of what was there, or refusal 9
-    /// or 10, and then nothing has changed.
+    /// An empty store with these settings in place of what was there, or refusal 9,
+    /// 10 or 25, and then nothing has changed.
     pub fn open(&mut self, settings: &Settings) -> Result<(), Refused> {
         self.store = Some(Store::open(settings)?);
         Ok(())
@@ -157,6 +177,15 @@ impl Memory {
             .and_then(|store| store.hear(message))
     }
 
+    /// What its store says to an entry; where none was opened, [`Refused::NoStore`]
+    /// whatever the entry is.
+    pub fn note(&mut self, entry: &Entry) -> Result<(), Refused> {
+        self.store
+            .as_mut()
+            .ok_or(Refused::NoStore)
+            .and_then(|store| store.note(entry))
+    }
+
     /// Its store, to be asked; where none was opened, [`Refused::NoStore`] is the
     /// answer to every question.
     pub fn store(&self) -> Result<&Store, Refused> {
@@ -164,7 +193,7 @@ impl Memory {
     }
 }
 
-/// Refusal 5: a question about a minute that cannot be.
+/// Refusal 5: a question or an entry about a minute that cannot be.
 #[inline]
 fn asked(minute: u32) -> Result<(), Refused> {
     if minute > LAST_MINUTE {

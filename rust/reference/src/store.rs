@@ -97,18 +97,24 @@ impl<T: Copy + Default> Window<T> {
         }
     }
 
-    /// Keeps the reading of this minute, or refusal 8 or 19 and nothing changed:
-    /// "a message must be later than its channel's newest". The first message of a
-    /// channel gets neither.
+    /// The minutes from the channel's newest to this one, 0 for its first; or refusal
+    /// 8 or 19: "a message must be later than its channel's newest". The first message
+    /// of a channel gets neither.
+    #[inline]
+    pub fn passed(&self, minute: u32) -> Result<u32, Refused> {
+        match self.newest {
+            Some(newest) if minute <= newest => Err(not_later(newest - minute)),
+            Some(newest) => Ok(minute - newest),
+            None => Ok(0),
+        }
+    }
+
+    /// Keeps the reading of this minute, or refusal 8 or 19 and nothing changed.
     ///
     /// A minute "jumped over, or before the channel's first, stays" absent.
     #[inline]
     pub fn accept(&mut self, minute: u32, reading: T) -> Result<(), Refused> {
-        let passed = match self.newest {
-            Some(newest) if minute <= newest => return Err(not_later(newest - minute)),
-            Some(newest) => minute - newest,
-            None => 0,
-        };
+        let passed = self.passed(minute)?;
         self.present = self.present.older_by(passed);
         self.present.near |= 1;
         self.newest = Some(minute);

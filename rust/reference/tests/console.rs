@@ -1,4 +1,4 @@
-//! The six commands, and lines that are none.
+//! The commands, and lines that are none.
 
 use reference::console::Console;
 
@@ -59,6 +59,75 @@ fn an_iced_bulb() {
 }
 
 #[test]
+fn a_wind_by_hand() {
+    let script = [
+        "open hPa 0 0 0 662 8500:0 11000:0 anemometer 1:13 2:22 10:94 20:188\n",
+        "hear 0300000064000000000000000000af43\n", // still, course 350
+        "note 16777216 361 10000 0 0\n",
+        "note 100 361 10000 0 0\n",
+        "note 100 360 10000 0 1\n",
+        "note 100 360 0 0 0\n",
+        "note 101 10 9940 0 60\n",
+        "note 100 10 9940 9999 60\n",
+        "note 100 10 9940 0 60\n",
+        "wind 100\n",
+        "note 100 10 9940 0 60\n",
+        "note 40 10 9940 0 60\n",
+        "hear 02000000640000000000004100000000\n",
+    ];
+    let expected = "open\nheard\nrefused 5\nrefused 7\n\
+        refused 23\nrefused 23\nrefused 11 3 101\nrefused 24\nnoted\nW 100 13 10\n\
+        refused 8\nrefused 19 60\nrefused 8\n";
+    assert_eq!(answers(&script.concat()), expected);
+}
+
+#[test]
+fn the_anemometer_may_be_left_out() {
+    let course = "hear 03000000640000000000000000000000\nnote 100 0 0 60 60\n";
+    for (rates, told) in [
+        ("", "refused 24"),
+        (" anemometer", "refused 24"),
+        (" anemometer 1:13 2:22", "noted"),
+    ] {
+        let script = format!("{}{rates}\n{course}", OPEN.trim_end());
+        assert_eq!(answers(&script), format!("open\nheard\n{told}\n"));
+    }
+    let many = |n: i32| -> String { (0..n).map(|i| format!(" {i}:{i}")).collect() };
+    for (line, told) in [
+        (
+            format!("open hPa 0 0 0 662 8500:0 11000:0 anemometer{}", many(20)),
+            "open",
+        ),
+        (
+            format!("open hPa 0 0 0 662 8500:0 11000:0 anemometer{}", many(21)),
+            "refused 25",
+        ),
+        (
+            format!("open hPa 0 0 0 662 8500:0 11000:0 anemometer{}", many(1)),
+            "refused 25",
+        ),
+        (
+            format!("open hPa 0 0 0 662 8500:0 anemometer{}", many(1)),
+            "refused 10",
+        ),
+        (
+            format!("open hPa 0 0 0 662 anemometer{}", many(1)),
+            "refused 10",
+        ),
+        (
+            format!("open hPa 0 0 0 499 anemometer{}", many(1)),
+            "refused 9",
+        ),
+        (
+            "open hPa 0 0 0 662 8500:0 11000:0 anemometer 0:0 99999999999:1".into(),
+            "refused 25",
+        ),
+    ] {
+        assert_eq!(answers(&line), format!("{told}\n"), "{line}");
+    }
+}
+
+#[test]
 fn a_refused_open_keeps_the_store_and_a_good_one_starts_empty() {
     let script = [
         OPEN,
@@ -108,6 +177,14 @@ fn what_is_no_command_says_so_and_changes_nothing() {
         "open bar 0 0 0 662",
         "open hPa 0 0 0 662 8500",
         "open hPa 0 0 x 662 8500:0 11000:0",
+        "open hPa 0 0 0 662 8500:0 11000:0 anemometer 1",
+        "open hPa 0 0 0 662 8500:0 11000:0 anemometer 0:0 anemometer 1:1",
+        "open anemometer hPa 0 0 0 662 8500:0 11000:0",
+        "note",
+        "note 1 2 3 4",
+        "note 1 2 3 4 5 6",
+        "note 1 2 -3 4 5",
+        "note 1 2 3 4 x",
         "hear 0g",
         "hear 000",
         "hear 00 00",
@@ -125,7 +202,7 @@ fn what_is_no_command_says_so_and_changes_nothing() {
         assert_eq!(answers(line), "not a command\n", "{line}");
     }
     assert_eq!(
-        answers("pressure 4\nhear 00\n"),
-        "no store is open\n".repeat(2)
+        answers("pressure 4\nhear 00\nnote 1 2 3 4 5\n"),
+        "no store is open\n".repeat(3)
     );
 }

@@ -123,3 +123,53 @@ fn tendency_over_a_silent_watch() {
     };
     assert_eq!(ship.store.tendency(400), Err(missing));
 }
+
+/// The wind of an entry is that of the message of channel 2 that says what is kept:
+/// by table 1 of 004, with a ship under way, so that speed and direction both tell.
+#[test]
+fn winds_by_the_hand_anemometer() {
+    for (course, direction, [first, second, seconds], metres, degrees) in [
+        // A point: 5 divisions a second.
+        (0.0, 90, [100, 400, 60], 4.9, 90.0),
+        // The dial passes 9999: 60 divisions in 30 seconds.
+        (0.0, 90, [9970, 30, 30], 2.2, 90.0),
+        // Both ends, 1 and 20 divisions a second.
+        (0.0, 90, [0, 600, 600], 1.3, 90.0),
+        (0.0, 90, [9999, 1, 2], 1.3, 90.0),
+        (0.0, 90, [0, 9980, 499], 18.8, 90.0),
+        // 1.5 divisions a second: 1.75, and so 1.8.
+        (0.0, 90, [0, 150, 100], 1.8, 90.0),
+        // Compass direction less course.
+        (350.0, 10, [0, 300, 60], 4.9, 20.0),
+        (0.0, 360, [0, 300, 60], 4.9, 0.0),
+        (0.0, 0, [0, 300, 60], 4.9, 0.0),
+        (360.0, 360, [0, 300, 60], 4.9, 0.0),
+        (1.0, 0, [0, 300, 60], 4.9, 359.0),
+        (359.0, 360, [0, 300, 60], 4.9, 1.0),
+        (260.0, 300, [0, 300, 60], 4.9, 40.0),
+    ] {
+        let (mut noted, mut heard) = (Ship::without_wind_head(), Ship::plain());
+        for ship in [&mut noted, &mut heard] {
+            ship.says_pair(3, 9, 12.5, course);
+        }
+        assert_eq!(noted.notes([9, direction, first, second, seconds]), Ok(()));
+        heard.says_pair(2, 9, metres, degrees);
+        let answer = noted.store.wind(9);
+        assert!(answer.is_ok());
+        assert_eq!(answer, heard.store.wind(9), "{direction} less {course}");
+    }
+}
+
+#[test]
+fn rates_beyond_the_hand_anemometers_certificate() {
+    let mut ship = Ship::without_wind_head();
+    ship.says_pair(3, 9, 0.0, 0.0);
+    // One division less than 1 a second, and one more than 20.
+    for [second, seconds] in [[599, 600], [0, 1], [9981, 499], [21, 1]] {
+        let answer = ship.notes([9, 90, 0, second, seconds]);
+        assert_eq!(answer, Err(Refused::Rate));
+    }
+    assert_eq!(ship.notes([9, 90, 0, 20, 1]), Ok(()));
+    // The ship lies still, so the true wind is the one noted.
+    assert_eq!(ship.store.wind(9), Ok(wind(188, 90)));
+}

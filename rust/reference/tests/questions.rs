@@ -334,6 +334,146 @@ fn a_refused_opening_gives_no_store() {
         coefficient: 0,
         psychrometer: 662,
         certificate: &[],
+        anemometer: &[],
     };
     assert_eq!(Store::open(&settings).err(), Some(Refused::Certificate));
+}
+
+const GOOD: [u32; 5] = [1000, 90, 0, 300, 60];
+
+/// GOOD with another figure at this place.
+fn noted_with(at: usize, value: u32) -> [u32; 5] {
+    let mut entry = GOOD;
+    entry[at] = value;
+    entry
+}
+
+#[test]
+fn an_entry_is_tested_in_order() {
+    let mut ship = Ship::without_wind_head();
+    ship.says_pair(2, 1000, 8.0, 40.0);
+    // Minute, direction, dials, seconds: all wrong, and then less and less of it. The rate is beyond the certificate too.
+    for (entry, refused) in [
+        ([LAST_MINUTE + 1, 361, 10_000, 0, 0], Refused::MinuteTooLate),
+        ([u32::MAX, 361, 10_000, 0, 0], Refused::MinuteTooLate),
+        ([1000, 361, 10_000, 0, 0], Refused::OutsideLimits),
+        ([999, u32::MAX, 10_000, 0, 0], Refused::OutsideLimits),
+        ([1000, 360, 10_000, 0, 0], Refused::Repeated),
+        ([999, 360, 10_000, 0, 0], Refused::Late { minutes: 1 }),
+        ([0, 360, 10_000, 0, 0], Refused::Late { minutes: 1000 }),
+        ([1001, 360, 10_000, 0, 1], Refused::Dial),
+        ([1001, 360, 0, 10_000, 1], Refused::Dial),
+        ([1001, 360, 0, 0, 0], Refused::Dial),
+        ([1001, 360, 0, 0, 601], Refused::Dial),
+        ([1001, 360, 0, 0, 1], absent(3, 1001)),
+    ] {
+        assert_eq!(ship.notes(entry), Err(refused), "{entry:?}");
+    }
+    ship.says_pair(3, 1001, 10.0, 0.0);
+    assert_eq!(ship.notes([1001, 360, 0, 0, 1]), Err(Refused::Rate));
+    assert_eq!(ship.notes([1001, 360, 0, 1, 1]), Ok(()));
+    assert_eq!(ship.notes([1001, 360, 0, 1, 1]), Err(Refused::Repeated));
+}
+
+#[test]
+fn an_entry_needs_the_course_of_its_own_minute() {
+    let mut ship = Ship::without_wind_head();
+    assert_eq!(ship.notes(GOOD), Err(absent(3, 1000)));
+    // The minutes beside it do not help, and one jumped over stays absent.
+    ship.says_pair(3, 999, 10.0, 90.0);
+    assert_eq!(ship.notes(GOOD), Err(absent(3, 1000)));
+    ship.says_pair(3, 1001, 10.0, 90.0);
+    assert_eq!(ship.notes(GOOD), Err(absent(3, 1000)));
+    assert_eq!(ship.notes(noted_with(0, 1001)), Ok(()));
+    // A course that is no longer kept is absent, however new the entry would be.
+    let mut ship = Ship::without_wind_head();
+    for (minute, expected) in [(1000, Ok(())), (1255, Ok(())), (1256, Err(absent(3, 1000)))] {
+        ship.says_pair(3, minute, 10.0, 90.0);
+        let mut asked = Ship {
+            store: ship.store.clone(),
+        };
+        assert_eq!(asked.notes(GOOD), expected);
+    }
+}
+
+#[test]
+fn a_refused_entry_changes_nothing() {
+    let mut ship = Ship::without_wind_head();
+    ship.says_pair(3, 900, 10.0, 90.0);
+    ship.says_pair(2, 900, 8.0, 40.0);
+    let wind = ship.store.wind(900);
+    for (entry, number) in [
+        (noted_with(0, LAST_MINUTE + 1), 5),
+        (noted_with(1, 361), 7),
+        (noted_with(0, 900), 8),
+        (noted_with(0, 899), 19),
+        (noted_with(2, 10_000), 23),
+        (noted_with(0, 901), 11),
+    ] {
+        assert_eq!(ship.notes(entry).map_err(Refused::number), Err(number));
+    }
+    ship.says_pair(3, 1000, 10.0, 90.0);
+    let beyond = ship.notes(noted_with(3, 9999));
+    assert_eq!(beyond, Err(Refused::Rate));
+    assert_eq!(ship.store.wind(900), wind);
+    assert_eq!(ship.store.wind(1000), Err(absent(2, 1000)));
+    // 900 is still the newest of channel 2.
+    let again = ship.tries(2, 900, 8.0, 40.0);
+    assert_eq!(again, Err(Refused::Repeated));
+    assert_eq!(ship.notes(GOOD), Ok(()));
+}
+
+#[test]
+fn an_entry_moves_channel_2_as_a_message_does() {
+    let mut ship = Ship::without_wind_head();
+    for minute in [100, 355, 356] {
+        ship.says_pair(3, minute, 0.0, 90.0);
+    }
+    ship.says_pair(2, 100, 8.0, 0.0);
+    assert_eq!(ship.notes(noted_with(0, 355)), Ok(()));
+    let answers = |ship: &Ship, minute| ship.store.wind(minute).map_err(Refused::number);
+    // Channel 3 has let minute 100 go at 356; channel 2 still keeps it.
+    assert_eq!(ship.store.wind(100), Err(absent(3, 100)));
+    assert_eq!(answers(&ship, 355).unwrap().speed, 49);
+    assert_eq!(ship.notes(noted_with(0, 356)), Ok(()));
+    assert_eq!(ship.store.wind(100), Err(absent(2, 100)));
+    // A message is late by an entry, and an entry by a message.
+    let late = Err(Refused::Late { minutes: 1 });
+    assert_eq!(ship.tries(2, 355, 8.0, 0.0), late);
+    ship.says_pair(2, 357, 8.0, 0.0);
+    assert_eq!(ship.notes(noted_with(0, 356)), late);
+    // No other channel sees it.
+    for channel in [0, 1, 4, 5] {
+        ship.says(
+            channel,
+            0,
+            [1000.0, 10.0, 0.0, 0.0, 20.0, 15.0][usize::from(channel)],
+        );
+    }
+    assert_eq!(ship.tries(3, 356, 0.0, 0.0), Err(Refused::Repeated));
+}
+
+#[test]
+fn the_course_counts_when_the_entry_is_made() {
+    let mut ship = Ship::without_wind_head();
+    ship.says_pair(3, 1000, 0.0, 350.0);
+    assert_eq!(ship.notes(noted_with(1, 10)), Ok(()));
+    // The ship lies still: 20 degrees from the bow of a course of 350.
+    let answer = ship.store.wind(1000).unwrap();
+    assert_eq!((answer.speed, answer.direction), (49, 10));
+    // A later course is another minute's.
+    ship.says_pair(3, 1001, 0.0, 90.0);
+    assert_eq!(ship.store.wind(1000), Ok(answer));
+}
+
+#[test]
+fn a_ship_without_a_certificate_takes_no_entry() {
+    let mut ship = Ship::plain();
+    assert_eq!(ship.notes(GOOD), Err(absent(3, 1000)));
+    ship.says_pair(3, 1000, 10.0, 90.0);
+    for second in [0, 1, 300, 9999] {
+        assert_eq!(ship.notes(noted_with(3, second)), Err(Refused::Rate));
+    }
+    assert_eq!(ship.notes(noted_with(4, 0)), Err(Refused::Dial));
+    assert_eq!(ship.store.wind(1000), Err(absent(2, 1000)));
 }

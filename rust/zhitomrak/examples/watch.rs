@@ -1,10 +1,11 @@
 //! A watch of four hours through the Rust crate: instruments are heard each minute with a gap, the four questions are asked, the wick
-//! freezes, the answers go into a watch file, and the file is listed.
+//! freezes, the wind head falls silent and the mate takes the hand anemometer, the answers go into a watch file, and the file is
+//! listed.
 
 use std::io::Write;
 
 use zhitomrak::watchfile::{self, Body, Record, LISTING_ROOM, LONGEST_FILE};
-use zhitomrak::{Humidity, Point, Refused, Settings, Store, Unit};
+use zhitomrak::{AnemometerPoint, Entry, Humidity, Point, Refused, Settings, Store, Unit};
 
 /// A message: channel, state, minute and binary32 values, little endian. The state is what is on the wet bulb: 0 water, 1 ice, 2
 /// unknown; on the other channels it is 0.
@@ -21,6 +22,21 @@ fn send(store: &mut Store, channel: u8, state: u8, minute: u32, first: f32, seco
             println!("channel {channel}, minute {minute}: refused 19, {minutes} minutes late")
         }
         Err(refused) => println!("channel {channel}, minute {minute}: {refused}"),
+    }
+}
+
+/// The wind by the hand anemometer. It needs the course of its minute, from channel 3.
+fn note(store: &mut Store, entry: Entry) {
+    let of = entry.minute;
+    match store.note(entry) {
+        Ok(()) => {}
+        Err(Refused::MissingReading { channel, minute }) => {
+            println!("entry, minute {of}: refused 11, channel {channel}, minute {minute}")
+        }
+        Err(Refused::Late { minutes }) => {
+            println!("entry, minute {of}: refused 19, {minutes} minutes late")
+        }
+        Err(refused) => println!("entry, minute {of}: {refused}"),
     }
 }
 
@@ -56,6 +72,21 @@ fn main() -> Result<(), Refused> {
             correction: -8,
         },
     ];
+    // table 1 of RD 52.04.651
+    let anemometer = [
+        (1, 13),
+        (2, 22),
+        (3, 31),
+        (4, 40),
+        (5, 49),
+        (6, 58),
+        (7, 67),
+        (8, 76),
+        (9, 85),
+        (10, 94),
+        (20, 188),
+    ]
+    .map(|(rate, speed)| AnemometerPoint { rate, speed });
     let mut settings = Settings {
         unit: Unit::Millimetres,
         height: 601,
@@ -63,6 +94,7 @@ fn main() -> Result<(), Refused> {
         coefficient: 24,
         psychrometer: 662,
         certificate: &certificate,
+        anemometer: &anemometer,
     };
     let told = |opening: &Result<Store, Refused>| {
         opening.as_ref().err().map_or(0, |refused| refused.number())
@@ -99,6 +131,23 @@ fn main() -> Result<(), Refused> {
     // ice
     send(&mut store, 5, 1, 241, -10.0, 0.0);
     say_humidity("humidity by an iced bulb", store.humidity(241)?);
+
+    // 140 divisions in a minute, past 9999, by the compass from 300 degrees: 2.5 m/s, and 40 degrees from the bow
+    let entry = Entry {
+        minute: 242,
+        direction: 300,
+        first: 9940,
+        second: 80,
+        seconds: 60,
+    };
+    // the course has not come yet
+    note(&mut store, entry);
+    send(&mut store, 3, 0, 242, 12.5, 260.0);
+    note(&mut store, entry);
+    // the same minute again
+    note(&mut store, entry);
+    let by_hand = store.wind(242)?;
+    println!("wind by hand {} from {}", by_hand.speed, by_hand.direction);
 
     let records = [
         Record::new(230, Body::Tendency(tendency)),

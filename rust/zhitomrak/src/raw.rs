@@ -2,11 +2,13 @@
 //! called here, with references whose pointers and lengths are right by their types.
 
 /// The words of a store's block.
-pub const WORDS: usize = 1588;
+pub const WORDS: usize = 1609;
 /// What a block that was never opened answers, none of the documents' numbers.
 pub const NO_STORE: u32 = 255;
-/// The most points of a certificate.
+/// The most points of the barometer's certificate.
 pub const POINTS: usize = 16;
+/// The most points of the hand anemometer's certificate.
+pub const ANEMOMETER_POINTS: usize = 20;
 /// The most records of a watch file.
 pub const RECORDS: usize = 48;
 /// The words of a record.
@@ -19,6 +21,20 @@ pub struct Point {
     pub correction: i32,
 }
 
+#[derive(Clone, Copy, Default)]
+#[repr(C)]
+pub struct AnemometerPoint {
+    pub rate: i32,
+    pub speed: i32,
+}
+
+#[derive(Clone, Copy, Default)]
+#[repr(C)]
+pub struct Anemometer {
+    pub count: u32,
+    pub points: [AnemometerPoint; ANEMOMETER_POINTS],
+}
+
 #[repr(C)]
 pub struct Settings {
     pub unit: u32,
@@ -28,11 +44,30 @@ pub struct Settings {
     pub psychrometer: i32,
     pub count: u32,
     pub points: [Point; POINTS],
+    pub anemometer: Anemometer,
 }
 
 #[repr(C)]
 pub struct Heard {
     pub number: u32,
+    pub late: u64,
+}
+
+#[derive(Clone, Copy)]
+#[repr(C)]
+pub struct Entry {
+    pub minute: u32,
+    pub direction: u32,
+    pub first: u32,
+    pub second: u32,
+    pub seconds: u32,
+}
+
+#[repr(C)]
+pub struct Noted {
+    pub number: u32,
+    pub channel: u32,
+    pub minute: u32,
     pub late: u64,
 }
 
@@ -105,6 +140,7 @@ pub struct Listed {
 extern "C" {
     fn zhitomrak_open(store: *mut [u64; WORDS], settings: Settings) -> u32;
     fn zhitomrak_hear(store: *mut [u64; WORDS], message: *const u8, length: usize) -> Heard;
+    fn zhitomrak_note(store: *mut [u64; WORDS], entry: Entry) -> Noted;
     fn zhitomrak_pressure(store: *const [u64; WORDS], minute: u32) -> Pressure;
     fn zhitomrak_tendency(store: *const [u64; WORDS], minute: u32) -> Tendency;
     fn zhitomrak_wind(store: *const [u64; WORDS], minute: u32) -> Wind;
@@ -131,6 +167,11 @@ pub fn open(store: &mut [u64; WORDS], settings: Settings) -> u32 {
 #[inline]
 pub fn hear(store: &mut [u64; WORDS], message: &[u8]) -> Heard {
     unsafe { zhitomrak_hear(store, message.as_ptr(), message.len()) }
+}
+
+#[inline]
+pub fn note(store: &mut [u64; WORDS], entry: Entry) -> Noted {
+    unsafe { zhitomrak_note(store, entry) }
 }
 
 #[inline]

@@ -28,9 +28,9 @@ pub enum Refused {
         /// How many minutes earlier, at least 1.
         minutes: u64,
     },
-    /// 9: a setting other than the certificate outside limits.
+    /// 9: a setting other than the certificates outside limits.
     Setting,
-    /// 10: the certificate breaks its rules.
+    /// 10: the barometer's certificate breaks its rules.
     Certificate,
     /// 11: a reading is absent or no longer kept.
     MissingReading {
@@ -71,6 +71,12 @@ pub enum Refused {
         /// The first byte of the first wrong field, the file's length where a field is cut short, or the first extra byte.
         place: usize,
     },
+    /// 23: a dial above 9999, or seconds not within 1 to 600.
+    OutsideDial,
+    /// 24: a rate outside the hand anemometer's certificate, or the store has none.
+    OutsideRates,
+    /// 25, tested after 10: the hand anemometer's certificate breaks its rules.
+    AnemometerCertificate,
     /// 255, none of the documents' numbers: the block was never opened, so there is no store to hear or to ask. A
     /// [`Store`](crate::Store) is opened where it is made and never answers this; the library itself does, of memory that no
     /// opening made.
@@ -103,6 +109,9 @@ impl Refused {
             Refused::BreaksRules { .. } => 16,
             Refused::TooShort { .. } => 17,
             Refused::Broken { .. } => 18,
+            Refused::OutsideDial => 23,
+            Refused::OutsideRates => 24,
+            Refused::AnemometerCertificate => 25,
             Refused::NoStore => raw::NO_STORE,
         }
     }
@@ -145,11 +154,14 @@ const fn bare(number: u32) -> Refused {
         20 => Refused::TooWarmForIce,
         21 => Refused::UnknownOutsideRange,
         22 => Refused::AboveSaturation,
+        23 => Refused::OutsideDial,
+        24 => Refused::OutsideRates,
+        25 => Refused::AnemometerCertificate,
         _ => Refused::NoStore,
     }
 }
 
-/// What an opening of this number came to: numbers are 0, 9 and 10, by the contract.
+/// What an opening of this number came to: numbers are 0, 9, 10 and 25, by the contract.
 #[inline]
 pub(crate) fn opened(number: u32) -> Result<(), Refused> {
     match number {
@@ -164,6 +176,23 @@ pub(crate) fn heard(told: raw::Heard) -> Result<(), Refused> {
     Err(match told.number {
         0 => return Ok(()),
         19 => Refused::Late { minutes: told.late },
+        number => bare(number),
+    })
+}
+
+/// What an entry came to: numbers are 0, 5, 7, 8, 11, 19, 23, 24 and 255, by the contract.
+#[inline]
+pub(crate) fn noted(told: raw::Noted) -> Result<(), Refused> {
+    let raw::Noted {
+        number,
+        channel,
+        minute,
+        late,
+    } = told;
+    Err(match number {
+        0 => return Ok(()),
+        11 => Refused::MissingReading { channel, minute },
+        19 => Refused::Late { minutes: late },
         number => bare(number),
     })
 }
@@ -195,10 +224,19 @@ mod tests {
             let refused = heard(raw::Heard { number, late }).unwrap_err();
             assert_eq!(refused.number(), number);
         }
-        for number in [9, 10] {
+        for number in [9, 10, 25] {
             assert_eq!(opened(number).unwrap_err().number(), number);
         }
         let (channel, minute) = (4, 220);
+        for number in [5, 7, 8, 11, 19, 23, 24, raw::NO_STORE] {
+            let told = raw::Noted {
+                number,
+                channel,
+                minute,
+                late,
+            };
+            assert_eq!(noted(told).unwrap_err().number(), number);
+        }
         for number in [5, 7]
             .into_iter()
             .chain(11..=15)
@@ -220,5 +258,21 @@ mod tests {
         assert_eq!(line(19, 60), "refused 19 60");
         assert_eq!(line(19, u64::MAX), "refused 19 18446744073709551615");
         assert_eq!(line(8, 0), "refused 8");
+    }
+
+    #[test]
+    fn an_entry_is_told_with_minutes_or_with_channel_and_minute() {
+        let line = |number| {
+            let told = raw::Noted {
+                number,
+                channel: 3,
+                minute: 220,
+                late: 60,
+            };
+            noted(told).unwrap_err().to_string()
+        };
+        assert_eq!(line(11), "refused 11 3 220");
+        assert_eq!(line(19), "refused 19 60");
+        assert_eq!(line(24), "refused 24");
     }
 }

@@ -1,7 +1,7 @@
-//! A store: opened with settings, it hears messages and is asked.
+//! A store: opened with settings, it hears messages, notes entries and is asked.
 
 use crate::raw;
-use crate::refusal::{asked, heard, opened, Refused};
+use crate::refusal::{asked, heard, noted, opened, Refused};
 
 /// The barometer's unit.
 #[derive(Clone, Copy, Debug, PartialEq, Eq)]
@@ -21,6 +21,15 @@ pub struct Point {
     pub correction: i32,
 }
 
+/// A point of the hand anemometer's certificate.
+#[derive(Clone, Copy, Debug, Default, PartialEq, Eq)]
+pub struct AnemometerPoint {
+    /// Whole divisions a second.
+    pub rate: i32,
+    /// Tenths of m/s.
+    pub speed: i32,
+}
+
 /// The settings of a store, right or wrong.
 #[derive(Clone, Copy, Debug)]
 pub struct Settings<'points> {
@@ -36,6 +45,24 @@ pub struct Settings<'points> {
     pub psychrometer: i32,
     /// 2 to 16 points, readings within the barometer's limits and strictly rising, corrections -50 to 50.
     pub certificate: &'points [Point],
+    /// The hand anemometer's: 2 to 20 points, rates 0 to 9999, speeds 0 to 750, both strictly rising; or none, where the ship has
+    /// no such instrument.
+    pub anemometer: &'points [AnemometerPoint],
+}
+
+/// The wind as a mate notes it by the hand anemometer, right or wrong.
+#[derive(Clone, Copy, Debug, PartialEq, Eq)]
+pub struct Entry {
+    /// The minute it is for.
+    pub minute: u32,
+    /// The degrees that the apparent wind comes from, by the compass: 0 to 360.
+    pub direction: u32,
+    /// The dial before, 0 to 9999 divisions.
+    pub first: u32,
+    /// The dial after; below the first it has passed 9999, once.
+    pub second: u32,
+    /// The seconds between the two, 1 to 600.
+    pub seconds: u32,
 }
 
 /// A change of pressure in three hours.
@@ -77,14 +104,27 @@ fn figure<T: TryInto<i32>>(n: T) -> i32 {
     n.try_into().unwrap_or(i32::MAX)
 }
 
-/// A store that was opened. It owns its block of 1588 words, and shares nothing with another.
+/// The hand anemometer's certificate as C has it: the points that there is room for, and how many there are.
+fn anemometer(points: &[AnemometerPoint]) -> raw::Anemometer {
+    let mut told = raw::Anemometer {
+        count: points.len().try_into().unwrap_or(u32::MAX),
+        ..Default::default()
+    };
+    for (to, &AnemometerPoint { rate, speed }) in told.points.iter_mut().zip(points) {
+        *to = raw::AnemometerPoint { rate, speed };
+    }
+    told
+}
+
+/// A store that was opened. It owns its block of 1609 words, and shares nothing with another.
 #[derive(Clone)]
 pub struct Store {
     block: Box<[u64; raw::WORDS]>,
 }
 
 impl Store {
-    /// An empty store with these settings; or [`Refused::Setting`], else [`Refused::Certificate`], and no store.
+    /// An empty store with these settings; or [`Refused::Setting`], else [`Refused::Certificate`], else
+    /// [`Refused::AnemometerCertificate`], and no store.
     pub fn open(settings: &Settings) -> Result<Store, Refused> {
         let mut points = [raw::Point::default(); raw::POINTS];
         for (to, point) in points.iter_mut().zip(settings.certificate) {
@@ -108,6 +148,7 @@ impl Store {
                 psychrometer: settings.psychrometer,
                 count: settings.certificate.len().try_into().unwrap_or(u32::MAX),
                 points,
+                anemometer: anemometer(settings.anemometer),
             },
         ))?;
         Ok(Store { block })
@@ -118,6 +159,27 @@ impl Store {
     #[inline]
     pub fn hear(&mut self, message: &[u8]) -> Result<(), Refused> {
         heard(raw::hear(&mut self.block, message))
+    }
+
+    /// Notes an entry of the hand anemometer and keeps its wind as channel 2's of that minute; or the first of refusals 5, 7, 8, 19,
+    /// 23, 11 for the course, 24 whose reason holds, and nothing has changed.
+    #[inline]
+    pub fn note(&mut self, entry: Entry) -> Result<(), Refused> {
+        let Entry {
+            minute,
+            direction,
+            first,
+            second,
+            seconds,
+        } = entry;
+        let entry = raw::Entry {
+            minute,
+            direction,
+            first,
+            second,
+            seconds,
+        };
+        noted(raw::note(&mut self.block, entry))
     }
 
     /// The pressure at sea level at a minute, tenths of hPa; refusals 5, 11, 12.
@@ -179,7 +241,23 @@ mod tests {
         message
     }
 
-    /// Whether a message and each question are answered as by no store, and the block stays all zeros.
+    /// The ship's motion at a minute: 10.0 knots, and this course.
+    fn motion(minute: u32, course: f32) -> [u8; 16] {
+        let mut motion = message(3, 0, minute, 10.0);
+        motion[12..].copy_from_slice(&course.to_le_bytes());
+        motion
+    }
+
+    /// 300 divisions in a minute, of a wind by the compass from 10 degrees.
+    const ENTRY: Entry = Entry {
+        minute: 1000,
+        direction: 10,
+        first: 9900,
+        second: 200,
+        seconds: 60,
+    };
+
+    /// Whether a message, an entry and each question are answered as by no store, and the block stays all zeros.
     fn is_no_store(block: Box<[u64; raw::WORDS]>) {
         let mut store = Store { block };
         let none = Some(Refused::NoStore);
@@ -187,6 +265,12 @@ mod tests {
         // neither a good message nor a wrong one is heard, and no minute is asked for first
         assert_eq!(store.hear(&message).err(), none);
         assert_eq!(store.hear(&message[..15]).err(), none);
+        assert_eq!(store.note(ENTRY).err(), none);
+        let wrong = Entry {
+            minute: u32::MAX,
+            ..ENTRY
+        };
+        assert_eq!(store.note(wrong).err(), none);
         for minute in [0, 179, 180, 16_777_215, 16_777_216, u32::MAX] {
             assert_eq!(store.pressure(minute).err(), none);
             assert_eq!(store.tendency(minute).err(), none);
@@ -202,6 +286,7 @@ mod tests {
             reading,
             correction: 0,
         };
+        let rate = |rate, speed| AnemometerPoint { rate, speed };
         Store::open(&Settings {
             unit: Unit::Hectopascals,
             height: 0,
@@ -209,6 +294,7 @@ mod tests {
             coefficient: 0,
             psychrometer: 662,
             certificate: &[point(8500), point(11000)],
+            anemometer: &[rate(1, 13), rate(5, 49), rate(20, 188)],
         })
         .expect("the settings are good")
     }
@@ -258,25 +344,113 @@ mod tests {
     }
 
     #[test]
+    fn an_entry_is_kept_as_channel_2_s_wind() {
+        let mut store = opened_store();
+        let noted = |store: &mut Store, change: fn(&mut Entry)| {
+            let mut entry = ENTRY;
+            change(&mut entry);
+            store.note(entry)
+        };
+        let was = store.block.clone();
+        let missing = Refused::MissingReading {
+            channel: 3,
+            minute: 1000,
+        };
+        let late_minute = noted(&mut store, |e| e.minute = 16_777_216);
+        assert_eq!(late_minute, Err(Refused::MinuteTooLate));
+        let direction = noted(&mut store, |e| e.direction = 361);
+        assert_eq!(direction, Err(Refused::OutsideLimits));
+        for change in [
+            (|e| e.first = 10_000) as fn(&mut Entry),
+            |e| e.second = 10_000,
+            |e| e.seconds = 0,
+            |e| e.seconds = 601,
+        ] {
+            assert_eq!(noted(&mut store, change), Err(Refused::OutsideDial));
+        }
+        assert_eq!(store.note(ENTRY), Err(missing));
+        assert!(store.block == was);
+        assert_eq!(store.hear(&motion(1000, 350.0)), Ok(()));
+        let was = store.block.clone();
+        let slow = noted(&mut store, |e| e.second = 9959);
+        assert_eq!(slow, Err(Refused::OutsideRates));
+        assert!(store.block == was);
+        assert_eq!(store.note(ENTRY), Ok(()));
+        // as if the wind head had said 4.9 m/s from 20 degrees
+        let by_hand = store.wind(1000);
+        let mut other = opened_store();
+        let mut head = message(2, 0, 1000, 4.9);
+        head[12..].copy_from_slice(&20f32.to_le_bytes());
+        assert_eq!(other.hear(&head), Ok(()));
+        assert_eq!(other.hear(&motion(1000, 350.0)), Ok(()));
+        assert!(by_hand.is_ok());
+        assert_eq!(by_hand, other.wind(1000));
+        assert_eq!(store.note(ENTRY), Err(Refused::Repeated));
+        let late = noted(&mut store, |e| e.minute = 940);
+        assert_eq!(late, Err(Refused::Late { minutes: 60 }));
+    }
+
+    #[test]
+    fn an_anemometer_s_certificate_keeps_its_rules() {
+        let point = |reading| Point {
+            reading,
+            correction: 0,
+        };
+        let opened = |anemometer: &[AnemometerPoint]| {
+            Store::open(&Settings {
+                unit: Unit::Hectopascals,
+                height: 0,
+                difference: 0,
+                coefficient: 0,
+                psychrometer: 662,
+                certificate: &[point(8500), point(11000)],
+                anemometer,
+            })
+        };
+        let points: Vec<AnemometerPoint> = (0..21)
+            .map(|i| AnemometerPoint { rate: i, speed: i })
+            .collect();
+        let broken = Some(Refused::AnemometerCertificate);
+        assert_eq!(opened(&points).err(), broken);
+        assert_eq!(opened(&points[..1]).err(), broken);
+        assert_eq!(opened(&[points[1], points[0]]).err(), broken);
+        assert!(opened(&points[..20]).is_ok());
+        // none: no entry has a rate within it
+        let mut store = opened(&[]).expect("the settings are good");
+        assert_eq!(store.hear(&motion(1000, 0.0)), Ok(()));
+        assert_eq!(store.note(ENTRY), Err(Refused::OutsideRates));
+    }
+
+    #[test]
     fn zeroed_memory_is_no_store() {
         is_no_store(Box::new([0; raw::WORDS]));
     }
 
     #[test]
     fn a_refused_opening_gives_no_store() {
-        let settings = |unit, psychrometer, count| raw::Settings {
-            unit,
-            height: 0,
-            difference: 0,
-            coefficient: 0,
-            psychrometer,
-            count,
-            points: [raw::Point::default(); raw::POINTS],
+        let settings = |unit, psychrometer, count| {
+            let mut points = [raw::Point::default(); raw::POINTS];
+            (points[0].reading, points[1].reading) = (8500, 11000);
+            let anemometer = raw::Anemometer {
+                count: 1,
+                ..Default::default()
+            };
+            raw::Settings {
+                unit,
+                height: 0,
+                difference: 0,
+                coefficient: 0,
+                psychrometer,
+                count,
+                points,
+                anemometer,
+            }
         };
         let mut block = Box::new([0; raw::WORDS]);
         assert_eq!(raw::open(&mut block, settings(2, 662, 2)), 9);
         assert_eq!(raw::open(&mut block, settings(0, 499, 2)), 9);
-        assert_eq!(raw::open(&mut block, settings(1, 662, 1)), 10);
+        assert_eq!(raw::open(&mut block, settings(0, 662, 1)), 10);
+        assert_eq!(raw::open(&mut block, settings(0, 662, 2)), 25);
         is_no_store(block);
     }
 }

@@ -2,6 +2,7 @@
 
 use std::io::{Read, Write};
 
+use reference::anemometer::{Entry, RatePoint};
 use reference::listing::{list, LONGEST_LISTING};
 use reference::settings::{Point, Settings, Unit};
 use reference::station::Store;
@@ -20,6 +21,7 @@ fn main() {
             correction: 0,
         },
     ];
+    let anemometer = [(1, 13), (20, 188)].map(|(rate, speed)| RatePoint { rate, speed });
     let settings = Settings {
         unit: Unit::HPa,
         height: 0,
@@ -27,11 +29,20 @@ fn main() {
         coefficient: 0,
         psychrometer: 662,
         certificate: &certificate,
+        anemometer: &anemometer,
     };
     let Ok(mut store) = Store::open(&settings) else {
         return;
     };
     let heard = input.chunks(16).filter(|m| store.hear(m).is_ok()).count() as u32;
+    let entry = Entry {
+        minute: heard,
+        direction: 10,
+        first: 9900,
+        second: heard,
+        seconds: 60,
+    };
+    let noted = store.note(&entry).is_ok() as u8;
     let mut records = Vec::new();
     let mut keep = |body| {
         records.push(Record {
@@ -58,5 +69,5 @@ fn main() {
     let mut room = [0; LONGEST_LISTING];
     let length = list(&file[..length], &mut room);
     std::io::stdout().write_all(&room[..length]).unwrap();
-    std::io::stdout().write_all(&[read]).unwrap();
+    std::io::stdout().write_all(&[read, noted]).unwrap();
 }

@@ -3,7 +3,7 @@
 use std::io::{Read, Write};
 
 use zhitomrak::watchfile::{self, Body, Record};
-use zhitomrak::{Point, Settings, Store, Unit};
+use zhitomrak::{AnemometerPoint, Entry, Point, Settings, Store, Unit};
 
 fn main() {
     let mut input = Vec::new();
@@ -18,6 +18,7 @@ fn main() {
             correction: 0,
         },
     ];
+    let anemometer = [(1, 13), (20, 188)].map(|(rate, speed)| AnemometerPoint { rate, speed });
     let settings = Settings {
         unit: Unit::Hectopascals,
         height: 0,
@@ -25,11 +26,20 @@ fn main() {
         coefficient: 0,
         psychrometer: 662,
         certificate: &certificate,
+        anemometer: &anemometer,
     };
     let Ok(mut store) = Store::open(&settings) else {
         return;
     };
     let heard = input.chunks(16).filter(|m| store.hear(m).is_ok()).count() as u32;
+    let entry = Entry {
+        minute: heard,
+        direction: 10,
+        first: 9900,
+        second: heard,
+        seconds: 60,
+    };
+    let noted = store.note(entry).is_ok() as u8;
     let mut records = Vec::new();
     let mut keep = |body| records.push(Record::new(heard, body));
     if let Ok(p) = store.pressure(heard) {
@@ -50,5 +60,5 @@ fn main() {
     let mut room = [0; watchfile::LISTING_ROOM];
     let text = watchfile::list(&file[..length], &mut room).unwrap_or(b"");
     std::io::stdout().write_all(text).unwrap();
-    std::io::stdout().write_all(&[read]).unwrap();
+    std::io::stdout().write_all(&[read, noted]).unwrap();
 }

@@ -2,6 +2,7 @@
 
 #![allow(dead_code)] // each test file uses its own part
 
+use reference::anemometer::{Entry, RatePoint};
 use reference::refusal::Refused;
 use reference::settings::{Point, Settings, Unit, USUAL_PSYCHROMETER};
 use reference::station::Store;
@@ -26,6 +27,21 @@ pub fn wet_bulb(minute: u32, state: u8, value: f32) -> Vec<u8> {
     bytes
 }
 
+/// Table 1 of 004, section 7.2: the certificate of a hand anemometer.
+pub const TABLE_1: [(i32, i32); 11] = [
+    (1, 13),
+    (2, 22),
+    (3, 31),
+    (4, 40),
+    (5, 49),
+    (6, 58),
+    (7, 67),
+    (8, 76),
+    (9, 85),
+    (10, 94),
+    (20, 188),
+];
+
 impl Ship {
     pub fn open(
         unit: Unit,
@@ -34,6 +50,22 @@ impl Ship {
         coefficient: i32,
         points: &[(i32, i32)],
     ) -> Ship {
+        Ship::fitted(unit, height, difference, coefficient, points, &[])
+    }
+
+    /// A ship with a hand anemometer, where its certificate has points.
+    fn fitted(
+        unit: Unit,
+        height: i32,
+        difference: i32,
+        coefficient: i32,
+        points: &[(i32, i32)],
+        rates: &[(i32, i32)],
+    ) -> Ship {
+        let anemometer: Vec<RatePoint> = rates
+            .iter()
+            .map(|&(rate, speed)| RatePoint { rate, speed })
+            .collect();
         let certificate: Vec<Point> = points
             .iter()
             .map(|&(reading, correction)| Point {
@@ -48,6 +80,7 @@ impl Ship {
             coefficient,
             psychrometer: USUAL_PSYCHROMETER,
             certificate: &certificate,
+            anemometer: &anemometer,
         };
         Ship {
             store: Store::open(&settings).expect("the settings are right"),
@@ -57,6 +90,25 @@ impl Ship {
     /// A ship in hPa whose corrections are all 0.
     pub fn plain() -> Ship {
         Ship::open(Unit::HPa, 0, 0, 0, &[(8500, 0), (11000, 0)])
+    }
+
+    /// The same with the hand anemometer of table 1.
+    pub fn without_wind_head() -> Ship {
+        Ship::fitted(Unit::HPa, 0, 0, 0, &[(8500, 0), (11000, 0)], &TABLE_1)
+    }
+
+    /// Minute, compass direction, the dial before and after, the seconds between.
+    pub fn notes(
+        &mut self,
+        [minute, direction, first, second, seconds]: [u32; 5],
+    ) -> Result<(), Refused> {
+        self.store.note(&Entry {
+            minute,
+            direction,
+            first,
+            second,
+            seconds,
+        })
     }
 
     pub fn says(&mut self, channel: u8, minute: u32, value: f32) {
