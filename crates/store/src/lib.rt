@@ -10,7 +10,7 @@ ghost use Rattle.cell.specs.Cells.{CHANNELS, recalledAs};
 ghost use Rattle.block.specs.Layout.{WORDS};
 ghost use Rattle.block.specs.Words.{windowOf};
 ghost use Rattle.store.specs.Noting.{IsCourse, workedAs, worked, Notes};
-ghost use Rattle.store.specs.Block.{openedBy, heardAs, newestTests, outcome, recallOf, absentOf, Keeps, Hears};
+ghost use Rattle.store.specs.Block.{openedBy, heardAs, newestTests, outcome, behind, keptCell, recallOf, absentOf, Keeps, Hears};
 use anemometer::Measured;
 use anemometer::Note;
 use block::NO_STORE;
@@ -128,17 +128,30 @@ fn why(next: u64, minute: u32) -> Hearing
     Hearing::Late(late)
 }
 
-// Keeps a reading in its channel's part of the block, if it is later than the channel's newest.
-fn keep(store: &mut [u64], minute: u32, r: Reading) -> Hearing
+// Keeps a cell in a channel's part of the block, if its minute is later than the channel's newest: 0. If it is not, the block stays as it
+// was, and the minute after the newest is told.
+fn keep(store: &mut [u64], c: usize, minute: u32, v: u64) -> u64
+    requires { ⌜ (length (now store) ≡ WORDS) × (c < CHANNELS) ⌝ }
+    ensures { λ r. ⌜ (r ≡ behind (now (store .entry)) c minute) × (now (store .exit) ≡ keptCell (now (store .entry)) c minute v) ⌝ }
+{
+    let a = SETTINGS + c * WINDOW;
+    let e = a + WINDOW;
+    let next = window::next(&store[a..e]);
+    if window::accept(&mut store[a..e], minute, v) {
+        return 0;
+    }
+    next
+}
+
+// Keeps a reading, if it is later than its channel's newest.
+fn offer(store: &mut [u64], minute: u32, r: Reading) -> Hearing
     requires { ⌜ length (now store) ≡ WORDS ⌝ }
     ensures { λ h. ⌜ Keeps (now (store .entry)) (now (store .exit)) (entryOf minute r) h ⌝ }
 {
     let c = channel_of(r);
     let v = cell::cell_of(r);
-    let a = SETTINGS + c * WINDOW;
-    let e = a + WINDOW;
-    let next = window::next(&store[a..e]);
-    if window::accept(&mut store[a..e], minute, v) {
+    let next = keep(store, c, minute, v);
+    if next == 0 {
         return Hearing::Heard;
     }
     why(next, minute)
@@ -155,7 +168,7 @@ pub fn hear(store: &mut Store, bytes: &[u8]) -> Hearing
     let unit = block::unit(store);
     match message::receive(bytes, unit) {
         Received::Refused(r) => Hearing::Refused(r),
-        Received::At(minute, r) => keep(store, minute.0, r),
+        Received::At(minute, r) => offer(store, minute.0, r),
     }
 }
 
@@ -253,7 +266,11 @@ pub fn note(store: &mut Store, n: Note) -> Hearing
         return why(next, n.minute);
     }
     match work(store, n) {
-        Worked::Wind(r) => keep(store, n.minute, r),
+        Worked::Wind(r) => {
+            let v = cell::cell_of(r);
+            keep(store, 2, n.minute, v);
+            Hearing::Heard
+        }
         Worked::OutsideDial => Hearing::OutsideDial,
         Worked::NoCourse => Hearing::NoCourse(Minute(n.minute)),
         Worked::OutsideAnemometer => Hearing::OutsideAnemometer,

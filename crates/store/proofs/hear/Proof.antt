@@ -29,8 +29,8 @@ enum-known-r c = search needs
 enum-known-minute : tie.Need-enum-known-minute
 enum-known-minute c = search needs
 
-keep-requires : tie.Need-keep-requires
-keep-requires c κs = search needs
+offer-requires : tie.Need-offer-requires
+offer-requires c κs = search needs
 
 returns-2 : tie.Need-returns-2
 returns-2 c =
@@ -44,9 +44,9 @@ returns-3 c =
     let start = c .before .before .before .before .before .before .before .before .before .before .before .before .args in
     let is = sym (c .before .before .before .before .before .before .before .before .before .is-store .ensures) ∙ not-false _ (c .before .before .before .before .before .before .before .before .if1 .left) in
     let sent = c .before .before .before .minute .given in
-    hears-kept (now (start .store)) (now (start .bytes)) is (c .keep .last .0) (entryOf (sent .0 .0 .0) (sent .0 .1 .0)) (c .keep .result)
+    hears-kept (now (start .store)) (now (start .bytes)) is (c .offer .last .0) (entryOf (sent .0 .0 .0) (sent .0 .1 .0)) (c .offer .result)
     (ap (λ (u : BarometerUnit). received u (now (start .bytes))) (sym (c .before .before .before .before .before .before .unit .ensures)) ∙ sym (c .before .before .before .before .before .receive .ensures) ∙ ap receivedAs (sent .1))
-    (c .keep .ensures)
+    (c .offer .ensures)
 
 pub hear-spec : {M : Type 1} → statement M
 hear-spec =
@@ -58,6 +58,6 @@ hear-spec =
     receive-requires
     enum-known-r
     enum-known-minute
-    keep-requires
+    offer-requires
     returns-2
     returns-3)

@@ -1,5 +1,5 @@
 -- `note` meets its contract: the store, the minute, the direction, the newest, and then what the entry is worked into. Assumes nothing.
-use mathlib.Core.Path.{_≡_, refl, sym, ap, _∙_}
+use mathlib.Core.Path.{_≡_, refl, sym, ap, subst, _∙_}
 use mathlib.Core.Bool.{true}
 use mathlib.Core.List.{List}
 use Prim.Native.Nat.{ℕ}
@@ -12,12 +12,14 @@ use Rattle.window.specs.Window.{next}
 use Rattle.block.specs.Words.{isStore}
 use Rattle.anemometer.specs.declared.Note.{Note}
 use Rattle.store.specs.Block.{nextIn, windChannel}
-use Rattle.store.specs.Noting.{workedAs}
+use Rattle.store.specs.Noting.{workedAs, Notes}
+use Rattle.store.specs.declared.Hearing.the-variants.{Heard}
 use Rattle.store.proofs.NoteLaws.{notes-unopened, notes-late, notes-undirected, notes-behind, notes-refused, notes-kept}
 use borrow.Author.Needs.{needs}
 use Rattle.store.proofs.note.Statement.{statement}
 use Rattle.store.proofs.note.Tie as tie
 use Rattle.block.proofs.is_store.Reads as is-store-reads
+use Rattle.cell.proofs.cell_of.Reads as cell-of-reads
 use Rattle.number.proofs.Number.whole.Reads as whole-reads
 use Rattle.quantity.proofs.Degrees.holds.Reads as Degrees-holds-reads
 use Rattle.quantity.proofs.Minute.holds.Reads as Minute-holds-reads
@@ -113,6 +115,9 @@ work-requires c κs = search needs
 enum-known-r : tie.Need-enum-known-r
 enum-known-r c = search needs
 
+cell-of-requires : tie.Need-cell-of-requires
+cell-of-requires c κs = search needs
+
 keep-requires : tie.Need-keep-requires
 keep-requires c κs = search needs
 
@@ -127,12 +132,14 @@ enum-told-3 c = search needs
 
 returns-5 : tie.Need-returns-5
 returns-5 c =
-    let work = c .before .before .before .before .before in
+    let work = c .before .before .before .before .before .before in
     let left = work .before .before in
     let k = three (left .before) in
-    let r = c .before .before .before .r .given in
-    notes-kept (s k) (n k) (is k) (time k) (way k) (following (left .before)) (left .if4 .left) (c .keep .last .0) (r .0 .0) (c .keep .result)
-    (sym (ap (workedAs (n k .minute)) (r .1)) ∙ work .work .ensures) (c .keep .ensures)
+    let r = c .before .before .before .before .r .given in
+    let v = c .before .before .cell-of in
+    subst (λ (x : List ℕ). Notes (s k) x (n k) Heard) (sym (c .keep .ensures .1))
+    (notes-kept (s k) (n k) (is k) (time k) (way k) (following (left .before)) (left .if4 .left) (r .0 .0) (v .result) (c .before .keep-arg .given .0 .1)
+    (sym (ap (workedAs (n k .minute)) (r .1)) ∙ work .work .ensures) (v .ensures (n k .minute)))
 
 returns-6 : tie.Need-returns-6
 returns-6 c =
@@ -170,6 +177,7 @@ note-spec =
     returns-4
     work-requires
     enum-known-r
+    cell-of-requires
     keep-requires
     enum-told
     enum-told-2
