@@ -8,6 +8,7 @@ use lib.IntN.{ℤ, pos}
 use Rattle.number.specs.Refusal.{Numbered, numbered, Test, test, Answer, refused, given, answer}
 use Rattle.quantity.specs.Limits.{lastMinute, inside, degrees}
 use Rattle.message.specs.Receive.{Entry, m/s, deg, entryOf}
+use Rattle.message.specs.declared.Reading.the-variants.{ApparentWind}
 use Rattle.cell.specs.Cells.{Recall, isPresent, inDegrees}
 use Rattle.anemometer.specs.Anemometer.{Certificate, certificateHeld, dialHolds, speed, noSpeed, fromBow}
 use Rattle.anemometer.specs.declared.Note.{Note}
@@ -65,7 +66,7 @@ notedBy s n = keptBy s (noting s n)
 
 -- The documents' number and values of each case.
 abbrev pub workedAs : ℕ → Worked → Answer Numbered Entry
-workedAs m (Wind r) = given (entryOf m r)
+workedAs m (Wind v d) = given (entryOf m (ApparentWind v d))
 workedAs m OutsideDial = refused (numbered 23 [])
 workedAs m NoCourse = refused (numbered 11 (courseChannel ∷ m ∷ []))
 workedAs m OutsideAnemometer = refused (numbered 24 [])

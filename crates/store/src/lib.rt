@@ -6,7 +6,8 @@ ghost use lib.ListN.{length};
 ghost use Rattle.number.specs.Refusal.{answer, numberedIn};
 ghost use Rattle.settings.specs.Settings.{checked, checkedAs};
 ghost use Rattle.message.specs.Receive.{Entry, entryOf};
-ghost use Rattle.cell.specs.Cells.{CHANNELS, recalledAs};
+ghost use Rattle.message.specs.declared.Reading.the-variants.{ApparentWind};
+ghost use Rattle.cell.specs.Cells.{CHANNELS, cellOf, recalledAs};
 ghost use Rattle.block.specs.Layout.{WORDS};
 ghost use Rattle.block.specs.Words.{windowOf};
 ghost use Rattle.store.specs.Noting.{IsCourse, workedAs, worked, Notes};
@@ -21,6 +22,7 @@ use message::Reading;
 use message::Received;
 use number::Number;
 use quantity::Degrees;
+use quantity::MetresPerSecond;
 use quantity::Minute;
 use settings::Checked;
 use settings::Settings;
@@ -63,9 +65,9 @@ pub fn number(h: Hearing) -> u32
     }
 }
 
-// An entry worked into a reading of the apparent wind, or why there is none.
+// An entry worked into an apparent wind, or why there is none.
 enum Worked {
-    Wind(Reading),
+    Wind(MetresPerSecond, Degrees),
     // 23
     OutsideDial,
     // 11
@@ -225,6 +227,13 @@ fn course_at(store: &Store, minute: u32) -> Course
     Course::At(course)
 }
 
+// The cell of an apparent wind.
+fn wind_cell(v: MetresPerSecond, d: Degrees) -> u64
+    ensures { λ r. ⌜ ((t : ℕ) → r ≡ cellOf (entryOf t (ApparentWind v d))) ⌝ }
+{
+    (v.0 % 65536) as u64 + 65536 * ((d.0 % 65536) as u64)
+}
+
 // Works an entry into a reading: speed by the dial, direction less the course that is kept at its minute. Or the first of refusals 23, 11
 // and 24 that holds.
 fn work(store: &Store, n: Note) -> Worked
@@ -240,9 +249,7 @@ fn work(store: &Store, n: Note) -> Worked
         },
         Measured::Speed(v) => match course {
             Course::NoneThere => Worked::NoCourse,
-            Course::At(ahead) => {
-                Worked::Wind(Reading::ApparentWind(v, anemometer::from_bow(n.direction, ahead)))
-            }
+            Course::At(ahead) => Worked::Wind(v, anemometer::from_bow(n.direction, ahead)),
         },
     }
 }
@@ -266,9 +273,8 @@ pub fn note(store: &mut Store, n: Note) -> Hearing
         return why(next, n.minute);
     }
     match work(store, n) {
-        Worked::Wind(r) => {
-            let v = cell::cell_of(r);
-            keep(store, 2, n.minute, v);
+        Worked::Wind(v, d) => {
+            keep(store, 2, n.minute, wind_cell(v, d));
             Hearing::Heard
         }
         Worked::OutsideDial => Hearing::OutsideDial,

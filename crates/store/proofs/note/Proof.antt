@@ -8,6 +8,7 @@ use lib.Dec.{leb}
 use lib.IntN.{pos}
 use borrow.Author.Tests.{not-true, not-false}
 use Rattle.quantity.specs.Limits.{inside, degrees, lastMinute}
+use Rattle.message.specs.declared.Reading.the-variants.{ApparentWind}
 use Rattle.window.specs.Window.{next}
 use Rattle.block.specs.Words.{isStore}
 use Rattle.anemometer.specs.declared.Note.{Note}
@@ -19,7 +20,7 @@ use borrow.Author.Needs.{needs}
 use Rattle.store.proofs.note.Statement.{statement}
 use Rattle.store.proofs.note.Tie as tie
 use Rattle.block.proofs.is_store.Reads as is-store-reads
-use Rattle.cell.proofs.cell_of.Reads as cell-of-reads
+use Rattle.store.proofs.wind_cell.Reads as wind-cell-reads
 use Rattle.number.proofs.Number.whole.Reads as whole-reads
 use Rattle.quantity.proofs.Degrees.holds.Reads as Degrees-holds-reads
 use Rattle.quantity.proofs.Minute.holds.Reads as Minute-holds-reads
@@ -112,11 +113,11 @@ returns-4 c =
 work-requires : tie.Need-work-requires
 work-requires c κs = search needs
 
-enum-known-r : tie.Need-enum-known-r
-enum-known-r c = search needs
+enum-known-v : tie.Need-enum-known-v
+enum-known-v c = search needs
 
-cell-of-requires : tie.Need-cell-of-requires
-cell-of-requires c κs = search needs
+wind-cell-requires : tie.Need-wind-cell-requires
+wind-cell-requires c κs = search needs
 
 keep-requires : tie.Need-keep-requires
 keep-requires c κs = search needs
@@ -135,10 +136,10 @@ returns-5 c =
     let work = c .before .before .before .before .before .before in
     let left = work .before .before in
     let k = three (left .before) in
-    let r = c .before .before .before .before .r .given in
-    let v = c .before .before .cell-of in
+    let r = c .before .before .before .before .v .given in
+    let v = c .before .wind-cell in
     subst (λ (x : List ℕ). Notes (s k) x (n k) Heard) (sym (c .keep .ensures .1))
-    (notes-kept (s k) (n k) (is k) (time k) (way k) (following (left .before)) (left .if4 .left) (r .0 .0) (v .result) (c .before .keep-arg .given .0 .1)
+    (notes-kept (s k) (n k) (is k) (time k) (way k) (following (left .before)) (left .if4 .left) (ApparentWind (r .0 .0) (r .0 .1 .0)) (v .result) (c .before .before .keep-arg .given .0 .1)
     (sym (ap (workedAs (n k .minute)) (r .1)) ∙ work .work .ensures) (v .ensures (n k .minute)))
 
 returns-6 : tie.Need-returns-6
@@ -176,8 +177,8 @@ note-spec =
     why-requires
     returns-4
     work-requires
-    enum-known-r
-    cell-of-requires
+    enum-known-v
+    wind-cell-requires
     keep-requires
     enum-told
     enum-told-2
