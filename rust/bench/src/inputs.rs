@@ -1,5 +1,6 @@
 //! What both sides are given: settings, messages of whole watches, and records of files.
 
+use reference::anemometer::TABLE_1;
 use reference::{
     anemometer, humidity, pressure, settings, station, vapour, watchfile as independent, wind,
 };
@@ -26,21 +27,6 @@ pub const MM_HG: Barometer = Barometer {
     readings: (6750, 8100),
 };
 
-/// The hand anemometer of table 1 of 004: divisions a second against tenths of m/s.
-const RATES: [(i32, i32); 11] = [
-    (1, 13),
-    (2, 22),
-    (3, 31),
-    (4, 40),
-    (5, 49),
-    (6, 58),
-    (7, 67),
-    (8, 76),
-    (9, 85),
-    (10, 94),
-    (20, 188),
-];
-
 pub fn open_proved(barometer: &Barometer) -> Store {
     let certificate = barometer.points.map(|(reading, correction)| Point {
         reading,
@@ -57,7 +43,7 @@ pub fn open_proved(barometer: &Barometer) -> Store {
         coefficient: 24,
         psychrometer: 662,
         certificate: &certificate,
-        anemometer: &RATES.map(|(rate, speed)| AnemometerPoint { rate, speed }),
+        anemometer: &TABLE_1.map(|(rate, speed)| AnemometerPoint { rate, speed }),
     };
     Store::open(&settings).expect("the settings are good")
 }
@@ -80,7 +66,7 @@ pub fn open_independent(barometer: &Barometer) -> station::Store {
         coefficient: 24,
         psychrometer: 662,
         certificate: &certificate,
-        anemometer: &RATES.map(|(rate, speed)| anemometer::RatePoint { rate, speed }),
+        anemometer: &TABLE_1.map(|(rate, speed)| anemometer::RatePoint { rate, speed }),
     };
     station::Store::open(&settings).expect("the settings are good")
 }

@@ -3,7 +3,7 @@
 //! hearing made: a word of the wet bulb's window says any state, a word of the ship's motion any course, and the words of the hand
 //! anemometer's certificate anything at all.
 
-use reference::anemometer::from_bow;
+use reference::anemometer::{from_bow, TABLE_1};
 use reference::rounding::nearest;
 use reference::station;
 use zhitomrak::raw;
@@ -11,7 +11,6 @@ use zhitomrak::raw;
 use crate::dial;
 use crate::pair::{
     hear_line, independent, message, not_later, note_line, tenths, their_entry, Chosen, Noted,
-    TABLE_1,
 };
 use crate::random::Random;
 use crate::tally::{Answer, Tally, To};

@@ -2,7 +2,9 @@
 //! one part beside; the dial and the seconds at their limits and beyond; every compass direction with every course; and silences that
 //! an entry ends.
 
-use crate::pair::{tenths, Chosen, Noted, Pair, LAST, TABLE_1};
+use reference::anemometer::TABLE_1;
+
+use crate::pair::{tenths, Chosen, Noted, Pair, LAST};
 use crate::random::Random;
 use crate::tally::Tally;
 

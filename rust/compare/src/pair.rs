@@ -32,21 +32,6 @@ pub struct Chosen {
     pub rates: Vec<(i32, i32)>,
 }
 
-/// Table 1 of 004, section 7.2: the certificate of a hand anemometer.
-pub const TABLE_1: [(i32, i32); 11] = [
-    (1, 13),
-    (2, 22),
-    (3, 31),
-    (4, 40),
-    (5, 49),
-    (6, 58),
-    (7, 67),
-    (8, 76),
-    (9, 85),
-    (10, 94),
-    (20, 188),
-];
-
 impl Chosen {
     /// Corrections that leave the reading as it is, and no hand anemometer.
     pub fn plain(mm_hg: bool) -> Chosen {

@@ -16,6 +16,22 @@ pub const DIAL: RangeInclusive<u32> = 0..=9999;
 /// "Seconds 1 to 600."
 pub const SECONDS: RangeInclusive<u32> = 1..=600;
 
+/// Table 1 of 004, section 7.2, the sample of a certificate: divisions a second and
+/// tenths of m/s.
+pub const TABLE_1: [(i32, i32); 11] = [
+    (1, 13),
+    (2, 22),
+    (3, 31),
+    (4, 40),
+    (5, 49),
+    (6, 58),
+    (7, 67),
+    (8, 76),
+    (9, 85),
+    (10, 94),
+    (20, 188),
+];
+
 /// A point of the anemometer's certificate.
 #[derive(Clone, Copy, Debug, Default, PartialEq, Eq)]
 pub struct RatePoint {
@@ -183,26 +199,11 @@ mod tests {
         }
     }
 
-    /// Table 1 of 004.
-    const TABLE: [(i32, i32); 11] = [
-        (1, 13),
-        (2, 22),
-        (3, 31),
-        (4, 40),
-        (5, 49),
-        (6, 58),
-        (7, 67),
-        (8, 76),
-        (9, 85),
-        (10, 94),
-        (20, 188),
-    ];
-
     #[test]
     fn a_certificate_keeps_its_rules_or_is_refused() {
         for right in [
             &[][..],
-            &TABLE,
+            &TABLE_1,
             &[(0, 0), (9999, 750)],
             &[(9998, 749), (9999, 750)],
             &[(0, 0), (1, 1)],
@@ -238,9 +239,9 @@ mod tests {
 
     #[test]
     fn a_point_has_its_own_speed() {
-        for (rate, tenths) in TABLE {
+        for (rate, tenths) in TABLE_1 {
             for seconds in [1, 7, 60, 100] {
-                let answer = speed(&TABLE, rate as u32 * seconds, seconds);
+                let answer = speed(&TABLE_1, rate as u32 * seconds, seconds);
                 assert_eq!(answer, Ok(tenths as i16), "{rate} for {seconds} s");
             }
         }
@@ -249,30 +250,30 @@ mod tests {
     #[test]
     fn both_ends_belong_and_one_part_beyond_does_not() {
         for seconds in SECONDS {
-            assert_eq!(speed(&TABLE, seconds, seconds), Ok(13));
-            assert_eq!(speed(&TABLE, seconds - 1, seconds), Err(24));
+            assert_eq!(speed(&TABLE_1, seconds, seconds), Ok(13));
+            assert_eq!(speed(&TABLE_1, seconds - 1, seconds), Err(24));
         }
         // 20 divisions a second for 499 seconds are 9980, as far as the dial goes.
         for seconds in 1..=499 {
-            assert_eq!(speed(&TABLE, 20 * seconds, seconds), Ok(188));
-            assert_eq!(speed(&TABLE, 20 * seconds + 1, seconds), Err(24));
+            assert_eq!(speed(&TABLE_1, 20 * seconds, seconds), Ok(188));
+            assert_eq!(speed(&TABLE_1, 20 * seconds + 1, seconds), Err(24));
         }
     }
 
     #[test]
     fn between_points_the_whole_line_is_rounded_once() {
         // 1.5 divisions a second: 1.75, a half, and so 1.8.
-        assert_eq!(speed(&TABLE, 90, 60), Ok(18));
+        assert_eq!(speed(&TABLE_1, 90, 60), Ok(18));
         // 89 in a minute: 1.735.
-        assert_eq!(speed(&TABLE, 89, 60), Ok(17));
+        assert_eq!(speed(&TABLE_1, 89, 60), Ok(17));
         // 15 divisions a second, from the line 10 to 20: 14.1.
-        assert_eq!(speed(&TABLE, 900, 60), Ok(141));
+        assert_eq!(speed(&TABLE_1, 900, 60), Ok(141));
         // 10 1/60: 9.4157; 10.05: 9.447, and 10.054: 9.45076.
-        assert_eq!(speed(&TABLE, 601, 60), Ok(94));
-        assert_eq!(speed(&TABLE, 201, 20), Ok(94));
-        assert_eq!(speed(&TABLE, 5027, 500), Ok(95));
+        assert_eq!(speed(&TABLE_1, 601, 60), Ok(94));
+        assert_eq!(speed(&TABLE_1, 201, 20), Ok(94));
+        assert_eq!(speed(&TABLE_1, 5027, 500), Ok(95));
         // A whole rate first would give 2 for 2.99, so 2.2.
-        assert_eq!(speed(&TABLE, 299, 100), Ok(31));
+        assert_eq!(speed(&TABLE_1, 299, 100), Ok(31));
         // Just under half of a tenth, and half of it.
         let line = [(0, 0), (600, 1)];
         assert_eq!(speed(&line, 299, 1), Ok(0));
@@ -288,7 +289,7 @@ mod tests {
         let mut given = 0;
         for (divisions, seconds) in (0..10_000).zip((1..=600).cycle()) {
             let [d, s] = [divisions, seconds].map(i64::from);
-            let answer = speed(&TABLE, divisions, seconds);
+            let answer = speed(&TABLE_1, divisions, seconds);
             if d < s || d > 20 * s {
                 assert_eq!(answer, Err(24));
                 continue;

@@ -281,12 +281,11 @@ mod tests {
         assert!(store.block.iter().all(|&word| word == 0));
     }
 
-    fn opened_store() -> Store {
+    fn opened(anemometer: &[AnemometerPoint]) -> Result<Store, Refused> {
         let point = |reading| Point {
             reading,
             correction: 0,
         };
-        let rate = |rate, speed| AnemometerPoint { rate, speed };
         Store::open(&Settings {
             unit: Unit::Hectopascals,
             height: 0,
@@ -294,9 +293,13 @@ mod tests {
             coefficient: 0,
             psychrometer: 662,
             certificate: &[point(8500), point(11000)],
-            anemometer: &[rate(1, 13), rate(5, 49), rate(20, 188)],
+            anemometer,
         })
-        .expect("the settings are good")
+    }
+
+    fn opened_store() -> Store {
+        let rate = |rate, speed| AnemometerPoint { rate, speed };
+        opened(&[rate(1, 13), rate(5, 49), rate(20, 188)]).expect("the settings are good")
     }
 
     #[test]
@@ -392,21 +395,6 @@ mod tests {
 
     #[test]
     fn an_anemometer_s_certificate_keeps_its_rules() {
-        let point = |reading| Point {
-            reading,
-            correction: 0,
-        };
-        let opened = |anemometer: &[AnemometerPoint]| {
-            Store::open(&Settings {
-                unit: Unit::Hectopascals,
-                height: 0,
-                difference: 0,
-                coefficient: 0,
-                psychrometer: 662,
-                certificate: &[point(8500), point(11000)],
-                anemometer,
-            })
-        };
         let points: Vec<AnemometerPoint> = (0..21)
             .map(|i| AnemometerPoint { rate: i, speed: i })
             .collect();

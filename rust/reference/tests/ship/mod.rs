@@ -2,7 +2,7 @@
 
 #![allow(dead_code)] // each test file uses its own part
 
-use reference::anemometer::{Entry, RatePoint};
+use reference::anemometer::{Entry, RatePoint, TABLE_1};
 use reference::refusal::Refused;
 use reference::settings::{Point, Settings, Unit, USUAL_PSYCHROMETER};
 use reference::station::Store;
@@ -26,21 +26,6 @@ pub fn wet_bulb(minute: u32, state: u8, value: f32) -> Vec<u8> {
     bytes[1] = state;
     bytes
 }
-
-/// Table 1 of 004, section 7.2: the certificate of a hand anemometer.
-pub const TABLE_1: [(i32, i32); 11] = [
-    (1, 13),
-    (2, 22),
-    (3, 31),
-    (4, 40),
-    (5, 49),
-    (6, 58),
-    (7, 67),
-    (8, 76),
-    (9, 85),
-    (10, 94),
-    (20, 188),
-];
 
 impl Ship {
     pub fn open(
