@@ -10,7 +10,8 @@ use zhitomrak::raw;
 
 use crate::dial;
 use crate::pair::{
-    hear_line, independent, message, not_later, note_line, tenths, their_entry, Chosen, Noted,
+    hear_line, independent, message, my_entry, not_later, note_line, tenths, their_entry, Chosen,
+    Noted,
 };
 use crate::random::Random;
 use crate::tally::{Answer, Tally, To};
@@ -43,16 +44,6 @@ fn noted(told: raw::Noted) -> Answer {
         (11, channel, minute, 0) => Answer::Refused(11, channel, minute),
         (number, 0, 0, late) => Answer::Refused(number, late, 0),
         (number, ..) => Answer::Refused(number, usize::MAX, usize::MAX),
-    }
-}
-
-fn my_entry([minute, direction, first, second, seconds]: Noted) -> raw::Entry {
-    raw::Entry {
-        minute,
-        direction,
-        first,
-        second,
-        seconds,
     }
 }
 

@@ -145,7 +145,17 @@ pub fn independent<T>(
 /// An entry of the hand anemometer: minute, compass direction, first and second dial, seconds.
 pub type Noted = [u32; 5];
 
-/// The entry as the independent side has it.
+/// The entry as the proved side has it, and as the independent side does.
+pub fn my_entry([minute, direction, first, second, seconds]: Noted) -> Entry {
+    Entry {
+        minute,
+        direction,
+        first,
+        second,
+        seconds,
+    }
+}
+
 pub fn their_entry([minute, direction, first, second, seconds]: Noted) -> anemometer::Entry {
     anemometer::Entry {
         minute,
@@ -254,15 +264,7 @@ impl Pair {
     /// Whether the entry was noted, which is compared.
     pub fn note(&mut self, tally: &mut Tally, kind: &'static str, entry: Noted) -> bool {
         self.told.push(Told::Entry(entry));
-        let [minute, direction, first, second, seconds] = entry;
-        let mine = Entry {
-            minute,
-            direction,
-            first,
-            second,
-            seconds,
-        };
-        let a = proved(self.proved.note(mine), |()| [0; 5]);
+        let a = proved(self.proved.note(my_entry(entry)), |()| [0; 5]);
         let b = self.independent.note(&their_entry(entry));
         let b = independent(b, |()| [0; 5]);
         tally.answers_to(To::Entry, kind, a, b, || self.script(String::new()));

@@ -1,6 +1,8 @@
 //! The functions of the static library as `include/zhitomrak.h` declares them, and the only unsafe code of this crate: each is
 //! called here, with references whose pointers and lengths are right by their types.
 
+pub use crate::store::{AnemometerPoint, Entry, Point};
+
 /// The words of a store's block.
 pub const WORDS: usize = 1609;
 /// What a block that was never opened answers, none of the documents' numbers.
@@ -13,20 +15,6 @@ pub const ANEMOMETER_POINTS: usize = 20;
 pub const RECORDS: usize = 48;
 /// The words of a record.
 pub const RECORD_WORDS: usize = 7;
-
-#[derive(Clone, Copy, Default)]
-#[repr(C)]
-pub struct Point {
-    pub reading: i32,
-    pub correction: i32,
-}
-
-#[derive(Clone, Copy, Default)]
-#[repr(C)]
-pub struct AnemometerPoint {
-    pub rate: i32,
-    pub speed: i32,
-}
 
 #[derive(Clone, Copy, Default)]
 #[repr(C)]
@@ -51,16 +39,6 @@ pub struct Settings {
 pub struct Heard {
     pub number: u32,
     pub late: u64,
-}
-
-#[derive(Clone, Copy)]
-#[repr(C)]
-pub struct Entry {
-    pub minute: u32,
-    pub direction: u32,
-    pub first: u32,
-    pub second: u32,
-    pub seconds: u32,
 }
 
 #[repr(C)]

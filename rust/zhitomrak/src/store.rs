@@ -14,6 +14,7 @@ pub enum Unit {
 
 /// A point of the barometer's certificate, in tenths of its unit.
 #[derive(Clone, Copy, Debug, Default, PartialEq, Eq)]
+#[repr(C)]
 pub struct Point {
     /// The reading.
     pub reading: i32,
@@ -23,6 +24,7 @@ pub struct Point {
 
 /// A point of the hand anemometer's certificate.
 #[derive(Clone, Copy, Debug, Default, PartialEq, Eq)]
+#[repr(C)]
 pub struct AnemometerPoint {
     /// Whole divisions a second.
     pub rate: i32,
@@ -52,6 +54,7 @@ pub struct Settings<'points> {
 
 /// The wind as a mate notes it by the hand anemometer, right or wrong.
 #[derive(Clone, Copy, Debug, PartialEq, Eq)]
+#[repr(C)]
 pub struct Entry {
     /// The minute it is for.
     pub minute: u32,
@@ -104,16 +107,13 @@ fn figure<T: TryInto<i32>>(n: T) -> i32 {
     n.try_into().unwrap_or(i32::MAX)
 }
 
-/// The hand anemometer's certificate as C has it: the points that there is room for, and how many there are.
-fn anemometer(points: &[AnemometerPoint]) -> raw::Anemometer {
-    let mut told = raw::Anemometer {
-        count: points.len().try_into().unwrap_or(u32::MAX),
-        ..Default::default()
-    };
-    for (to, &AnemometerPoint { rate, speed }) in told.points.iter_mut().zip(points) {
-        *to = raw::AnemometerPoint { rate, speed };
+/// A certificate as C has it: how many points it has, and those that there is room for.
+fn certificate<P: Copy + Default, const ROOM: usize>(points: &[P]) -> (u32, [P; ROOM]) {
+    let mut kept = [P::default(); ROOM];
+    for (to, &point) in kept.iter_mut().zip(points) {
+        *to = point;
     }
-    told
+    (points.len().try_into().unwrap_or(u32::MAX), kept)
 }
 
 /// A store that was opened. It owns its block of 1609 words, and shares nothing with another.
@@ -126,13 +126,8 @@ impl Store {
     /// An empty store with these settings; or [`Refused::Setting`], else [`Refused::Certificate`], else
     /// [`Refused::AnemometerCertificate`], and no store.
     pub fn open(settings: &Settings) -> Result<Store, Refused> {
-        let mut points = [raw::Point::default(); raw::POINTS];
-        for (to, point) in points.iter_mut().zip(settings.certificate) {
-            *to = raw::Point {
-                reading: point.reading,
-                correction: point.correction,
-            };
-        }
+        let (count, points) = certificate(settings.certificate);
+        let (rates, rate_points) = certificate(settings.anemometer);
         let unit = match settings.unit {
             Unit::Hectopascals => 0,
             Unit::Millimetres => 1,
@@ -146,9 +141,12 @@ impl Store {
                 difference: settings.difference,
                 coefficient: settings.coefficient,
                 psychrometer: settings.psychrometer,
-                count: settings.certificate.len().try_into().unwrap_or(u32::MAX),
+                count,
                 points,
-                anemometer: anemometer(settings.anemometer),
+                anemometer: raw::Anemometer {
+                    count: rates,
+                    points: rate_points,
+                },
             },
         ))?;
         Ok(Store { block })
@@ -165,20 +163,6 @@ impl Store {
     /// 23, 11 for the course, 24 whose reason holds, and nothing has changed.
     #[inline]
     pub fn note(&mut self, entry: Entry) -> Result<(), Refused> {
-        let Entry {
-            minute,
-            direction,
-            first,
-            second,
-            seconds,
-        } = entry;
-        let entry = raw::Entry {
-            minute,
-            direction,
-            first,
-            second,
-            seconds,
-        };
         noted(raw::note(&mut self.block, entry))
     }
 
