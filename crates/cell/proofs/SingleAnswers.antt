@@ -9,6 +9,7 @@ use Rattle.cell.specs.declared.Recalled.{Recalled}
 use Rattle.cell.specs.declared.Recalled.the-variants as kept
 use Rattle.cell.proofs.biased.Reads as biased
 use Rattle.cell.proofs.unbiased.Reads as unbiased
+use Rattle.cell.proofs.pair_cell.Reads as pair-cell
 use Rattle.cell.proofs.cell_of.Reads as cell-of
 use Rattle.cell.proofs.reading_in.Reads as reading-in
 
@@ -17,6 +18,9 @@ single-biased κs a r r′ s s′ p q = p .0 ∙ sym (q .0)
 
 pub single-unbiased : Single unbiased.Post
 single-unbiased κs a r r′ s s′ p q = kept-by (p ∙ sym q)
+
+pub single-pair-cell : Single pair-cell.Post
+single-pair-cell κs a r r′ s s′ p q = p ∙ sym q
 
 pub single-cell-of : Single cell-of.Post
 single-cell-of κs a r r′ s s′ p q = p 0 ∙ sym (q 0)

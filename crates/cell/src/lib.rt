@@ -45,7 +45,8 @@ pub fn unbiased(w: u64) -> Kept
 
 // ---- a reading as a cell
 
-fn pair_cell(a: u32, b: u32) -> u64
+// The cell of two figures, 16 bits of each.
+pub fn pair_cell(a: u32, b: u32) -> u64
     ensures { λ r. ⌜ r ≡ a % 65536 + 65536 * (b % 65536) ⌝ }
 {
     (a % 65536) as u64 + 65536 * ((b % 65536) as u64)

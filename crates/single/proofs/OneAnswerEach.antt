@@ -66,6 +66,7 @@ use Rattle.window.proofs.missed.Reads as window-missed
 use Rattle.cell.proofs.SingleAnswers as cell
 use Rattle.cell.proofs.biased.Reads as cell-biased
 use Rattle.cell.proofs.unbiased.Reads as cell-unbiased
+use Rattle.cell.proofs.pair_cell.Reads as cell-pair-cell
 use Rattle.cell.proofs.cell_of.Reads as cell-cell-of
 use Rattle.cell.proofs.reading_in.Reads as cell-reading-in
 use Rattle.certificate.proofs.SingleAnswers as certificate
@@ -291,6 +292,7 @@ pub record OneAnswerEach : Type 0 where
   -- cell
   pub cell-biased-single : Single cell-biased.Post
   pub cell-unbiased-single : Single cell-unbiased.Post
+  pub cell-pair-cell-single : Single cell-pair-cell.Post
   pub cell-cell-of-single : Single cell-cell-of.Post
   pub cell-reading-in-single : Single cell-reading-in.Post
   -- certificate
@@ -553,6 +555,7 @@ one-answer-each =
       window-missed-single = window.single-missed;
       cell-biased-single = cell.single-biased;
       cell-unbiased-single = cell.single-unbiased;
+      cell-pair-cell-single = cell.single-pair-cell;
       cell-cell-of-single = cell.single-cell-of;
       cell-reading-in-single = cell.single-reading-in;
       certificate-value-at-single = certificate.single-value-at;

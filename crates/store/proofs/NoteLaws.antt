@@ -4,8 +4,7 @@ use mathlib.Core.Bool.{true, false}
 use mathlib.Core.List.{List, []}
 use Prim.Native.Nat.{ℕ, _<_, _≤_}
 use native.Mathlib.Omega.{arith}
-use lib.Dec.{leb, ltb, lit<}
-use lib.ListN.{length}
+use lib.Dec.{leb, ltb}
 use lib.IntN.{pos}
 use borrow.Author.Tests.{leb-true, leb-false, le-ltb, lt-ltb}
 use Rattle.number.specs.Refusal.{Numbered, numbered, refused, given, answer}
@@ -15,15 +14,14 @@ use Rattle.message.specs.declared.Reading.{Reading}
 use Rattle.message.proofs.SingleAnswers.{entry-minute}
 use Rattle.wire.specs.declared.MessageRefusal.the-variants.{MinuteTooLate, OutsideLimits}
 use Rattle.cell.specs.Cells.{cellOf}
-use Rattle.block.specs.Layout.{WORDS}
-use Rattle.block.specs.Words.{isStore}
+use Rattle.window.specs.Window.{accepted}
+use Rattle.block.specs.Words.{isStore, windowOf, replaced}
 use Rattle.anemometer.specs.Anemometer.{certificateHeld}
 use Rattle.anemometer.specs.declared.Note.{Note}
-use Rattle.store.specs.Block.{newestTests, nextIn, keptCell, keptBy, heardAs, outcome, windChannel}
+use Rattle.store.specs.Block.{newestTests, nextIn, keptBy, heardAs, outcome, windChannel}
 use Rattle.store.specs.Noting.{windEntry, courseAt, worked, noting, notedBy, Notes}
 use Rattle.store.specs.declared.Hearing.{Hearing}
 use Rattle.store.specs.declared.Hearing.the-variants.{Heard, Refused, NoStore}
-use Rattle.store.proofs.HearLaws.{is-taken}
 use Rattle.store.proofs.NewestLaws.{not-later}
 use Rattle.store.proofs.NotingLaws.{notes-nothing, too-late, no-direction, not-after, after, noting-channel, noted-refused}
 
@@ -64,12 +62,11 @@ module _ (s : List ℕ) (n : Note) where
           notes-refused {x} {h} e told = refuses x h (after s n is in-time way (rw is-next at l) ∙ sym e) told
 
           -- it is worked into a reading, whose cell is kept
-          pub notes-kept : (r : Reading) (v : ℕ) → length s ≡ WORDS → given (entryOf (n .minute) r) ≡ worked s n → v ≡ cellOf (entryOf (n .minute) r)
-              → Notes s (keptCell s windChannel (n .minute) v) n Heard
+          pub notes-kept : (r : Reading) (v : ℕ) → given (entryOf (n .minute) r) ≡ worked s n → v ≡ cellOf (entryOf (n .minute) r)
+              → Notes s (replaced s windChannel (accepted (windowOf windChannel s) (n .minute) v)) n Heard
           unfolding notedBy
-          notes-kept r v long e cell =
+          notes-kept r v e cell =
               let all = after s n is in-time way (rw is-next at l) ∙ sym e in
               let entry = entryOf (n .minute) r in
               let own : entry .channel ≡ windChannel = noting-channel s n entry all in
-              let taken = is-taken s windChannel (n .minute) long (lit< tt) (rw is-next at l) in
-              record { answer = sym (ap outcome all); block = rw (taken, all, own, entry-minute (n .minute) r, cell) }
+              record { answer = sym (ap outcome all); block = rw (all, own, entry-minute (n .minute) r, cell) }

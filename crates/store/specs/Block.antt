@@ -12,7 +12,7 @@ use Rattle.wire.specs.Decode.{message, numberOf}
 use Rattle.message.specs.Receive.{Entry, entry, tests}
 use Rattle.settings.specs.Settings.{checked}
 use Rattle.settings.specs.declared.Settings.{Settings}
-use Rattle.window.specs.Window.{next, takes, accepted, present, absents}
+use Rattle.window.specs.Window.{next, accepted, present, absents}
 use Rattle.window.specs.Window as window
 use Rattle.window.specs.declared.Found.{Found}
 use Rattle.window.specs.declared.Found.the-variants.{Absent, Cell}
@@ -108,13 +108,6 @@ outcome (given e) = given tt
 -- What an entry comes to, by its channel's newest.
 abbrev pub offered : List ℕ → Entry → Answer Numbered Entry
 offered s e = answer (newestTests (nextIn s (e .channel)) (e .minute)) e
-
--- A channel's cell was offered for a minute: 0 where it is taken, else the minute after the newest; and the block then.
-abbrev pub behind : List ℕ → ℕ → ℕ → ℕ
-behind s c m = cond (takes (windowOf c s) m) 0 (nextIn s c)
-
-abbrev pub keptCell : List ℕ → ℕ → ℕ → ℕ → List ℕ
-keptCell s c m v = cond (takes (windowOf c s) m) (replaced s c (accepted (windowOf c s) m v)) s
 
 -- An entry was offered to the store, and answered by h.
 pub record Keeps (s s′ : List ℕ) (e : Entry) (h : Hearing) : Type 0 where

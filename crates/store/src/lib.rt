@@ -1,17 +1,17 @@
 // The store: a block that the caller lends is opened with settings, hears messages and entries of the hand anemometer, and is asked what
 // it keeps.
 ghost use mathlib.Core.Path.{_≡_};
-ghost use Prim.Native.Nat.{ℕ, _<_};
+ghost use Prim.Native.Nat.{ℕ, _≤_, _<_};
 ghost use lib.ListN.{length};
 ghost use Rattle.number.specs.Refusal.{answer, numberedIn};
 ghost use Rattle.settings.specs.Settings.{checked, checkedAs};
 ghost use Rattle.message.specs.Receive.{Entry, entryOf};
-ghost use Rattle.message.specs.declared.Reading.the-variants.{ApparentWind};
-ghost use Rattle.cell.specs.Cells.{CHANNELS, cellOf, recalledAs};
+ghost use Rattle.cell.specs.Cells.{CHANNELS, recalledAs};
 ghost use Rattle.block.specs.Layout.{WORDS};
-ghost use Rattle.block.specs.Words.{windowOf};
+ghost use Rattle.window.specs.Window.{accepted};
+ghost use Rattle.block.specs.Words.{windowOf, replaced};
 ghost use Rattle.store.specs.Noting.{IsCourse, workedAs, worked, Notes};
-ghost use Rattle.store.specs.Block.{openedBy, heardAs, newestTests, outcome, behind, keptCell, recallOf, absentOf, Keeps, Hears};
+ghost use Rattle.store.specs.Block.{openedBy, heardAs, newestTests, nextIn, outcome, recallOf, absentOf, Keeps, Hears};
 use anemometer::Measured;
 use anemometer::Note;
 use block::NO_STORE;
@@ -103,6 +103,17 @@ pub fn open(store: &mut Store, settings: Settings) -> Checked
 
 // ---- hearing
 
+// A channel's window.
+fn window_of(store: &Store, c: usize) -> &[u64]
+    requires { ⌜ c < CHANNELS ⌝ }
+    ensures { λ r. ⌜ now r ≡ windowOf c (now (store .entry)) ⌝ }
+{
+    let s = &store[..];
+    let from = SETTINGS + c * WINDOW;
+    let to = from + WINDOW;
+    &s[from..to]
+}
+
 fn channel_of(r: Reading) -> usize
     ensures { λ c. ⌜ ((t : ℕ) → c ≡ entryOf t r .channel) × (c < CHANNELS) ⌝ }
 {
@@ -130,33 +141,28 @@ fn why(next: u64, minute: u32) -> Hearing
     Hearing::Late(late)
 }
 
-// Keeps a cell in a channel's part of the block, if its minute is later than the channel's newest: 0. If it is not, the block stays as it
-// was, and the minute after the newest is told.
-fn keep(store: &mut [u64], c: usize, minute: u32, v: u64) -> u64
-    requires { ⌜ (length (now store) ≡ WORDS) × (c < CHANNELS) ⌝ }
-    ensures { λ r. ⌜ (r ≡ behind (now (store .entry)) c minute) × (now (store .exit) ≡ keptCell (now (store .entry)) c minute v) ⌝ }
+// Keeps the cell of a minute that is later than the newest in its channel's part of the block.
+fn keep(store: &mut [u64], c: usize, minute: u32, v: u64)
+    requires { ⌜ (length (now store) ≡ WORDS) × (c < CHANNELS) × (nextIn (now store) c ≤ minute) ⌝ }
+    ensures { λ r. ⌜ now (store .exit) ≡ replaced (now (store .entry)) c (accepted (windowOf c (now (store .entry))) minute v) ⌝ }
 {
     let a = SETTINGS + c * WINDOW;
     let e = a + WINDOW;
-    let next = window::next(&store[a..e]);
-    if window::accept(&mut store[a..e], minute, v) {
-        return 0;
-    }
-    next
+    window::accept(&mut store[a..e], minute, v);
 }
 
 // Keeps a reading, if it is later than its channel's newest.
-fn offer(store: &mut [u64], minute: u32, r: Reading) -> Hearing
-    requires { ⌜ length (now store) ≡ WORDS ⌝ }
+fn offer(store: &mut Store, minute: u32, r: Reading) -> Hearing
     ensures { λ h. ⌜ Keeps (now (store .entry)) (now (store .exit)) (entryOf minute r) h ⌝ }
 {
     let c = channel_of(r);
     let v = cell::cell_of(r);
-    let next = keep(store, c, minute, v);
-    if next == 0 {
-        return Hearing::Heard;
+    let next = window::next(window_of(store, c));
+    if (minute as u64) < next {
+        return why(next, minute);
     }
-    why(next, minute)
+    keep(store, c, minute, v);
+    Hearing::Heard
 }
 
 // Hears a message: it is kept, or the first of refusals 1 to 8 and 19 that holds is given and the block stays as it was. So does a
@@ -175,17 +181,6 @@ pub fn hear(store: &mut Store, bytes: &[u8]) -> Hearing
 }
 
 // ---- asking
-
-// A channel's window.
-fn window_of(store: &Store, c: usize) -> &[u64]
-    requires { ⌜ c < CHANNELS ⌝ }
-    ensures { λ r. ⌜ now r ≡ windowOf c (now (store .entry)) ⌝ }
-{
-    let s = &store[..];
-    let from = SETTINGS + c * WINDOW;
-    let to = from + WINDOW;
-    &s[from..to]
-}
 
 // What is kept of a channel's minute.
 pub fn recall(store: &Store, channel: u32, minute: u32) -> Recalled
@@ -225,13 +220,6 @@ fn course_at(store: &Store, minute: u32) -> Course
         return Course::NoneThere;
     };
     Course::At(course)
-}
-
-// The cell of an apparent wind.
-fn wind_cell(v: MetresPerSecond, d: Degrees) -> u64
-    ensures { λ r. ⌜ ((t : ℕ) → r ≡ cellOf (entryOf t (ApparentWind v d))) ⌝ }
-{
-    (v.0 % 65536) as u64 + 65536 * ((d.0 % 65536) as u64)
 }
 
 // Works an entry into a reading: speed by the dial, direction less the course that is kept at its minute. Or the first of refusals 23, 11
@@ -274,7 +262,7 @@ pub fn note(store: &mut Store, n: Note) -> Hearing
     }
     match work(store, n) {
         Worked::Wind(v, d) => {
-            keep(store, 2, n.minute, wind_cell(v, d));
+            keep(store, 2, n.minute, cell::pair_cell(v.0, d.0));
             Hearing::Heard
         }
         Worked::OutsideDial => Hearing::OutsideDial,

@@ -164,6 +164,3 @@ over-fits w o k p q ep eq l h f =
 -- before what is below o is known
 pub over-alone : (w k p : ℕ) → p ≡ 2 ^ k → k < 64 → w < 2 ^ 64 → Room w p p
 over-alone w k p e l h = over-fits w k k p p e e (le-refl k) l h
-
-pub unset-fits : (w k p : ℕ) → p ≡ 2 ^ k → w / p % 2 ≡ 0 → k < 64 → w < 2 ^ 64 → w + p < 2 ^ 64
-unset-fits w k p e z l h = rw (unset-marked w k p e z, marked-put w k) (over-lt w k k (le-refl k) l h)

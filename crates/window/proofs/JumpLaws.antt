@@ -1,8 +1,8 @@
--- What `jump` leaves: where as many minutes are wiped as the window has, all its bits are cleared, from whatever minute on, and whether
+-- What jumping over minutes leaves: where as many are wiped as the window has, all its bits are cleared, from whatever minute on, and whether
 -- the minute that is heard was among them does not matter. Assumes nothing.
 use mathlib.Core.Path.{_≡_, refl, sym, ap, ap₂, _∙_, subst}
 use mathlib.Core.List.{List}
-use Prim.Native.Nat.{ℕ, zero, suc, _+_, _-_, _*_, _/_, _%_, _^_, _≤_, _<_, min}
+use Prim.Native.Nat.{ℕ, zero, suc, _+_, _-_, _*_, _/_, _%_, _^_, _≤_, _<_, min, max}
 use native.Mathlib.Nat.{mod-lt}
 use native.Mathlib.Omega.{arith}
 use native.Mathlib.Decide.{ℕ-discrete, decLt}
@@ -114,22 +114,30 @@ module _ (w : List ℕ) (e : length w ≡ WINDOW) (f : Fits w) where
       go i (no p) d = aside i (λ x y. p x)
       go i (yes p) (no q) = aside i (λ x y. q y)
 
--- ---- what `jump` makes of it
+-- ---- what a minute leaves that is heard behind them
 
 -- a minute is heard, and the n before it are absent
 abbrev pub heardAfter : List ℕ → ℕ → ℕ → List ℕ
 heardAfter w m n = mark (wiped w (m - n) n) m
 
 module _ (w : List ℕ) (t m : ℕ) (l : t ≤ m) where
-  pub jumped-some : m - t < MINUTES → mark (wiped w t (m - t)) m ≡ heardAfter w m (min (m - t) MINUTES)
+  jumped-some : m - t < MINUTES → mark (wiped w t (m - t)) m ≡ heardAfter w m (min (m - t) MINUTES)
   jumped-some h = ap₂ (λ (x n : ℕ). mark (wiped w x n) m) (omega arith) (omega arith)
 
-  pub jumped-none : t ≡ m → mark w m ≡ heardAfter w m (min (m - t) MINUTES)
-  jumped-none s = ap (λ (x : List ℕ). mark x m) (sym (wiped-none w t m (omega arith))) ∙ jumped-some (omega arith)
-
-  pub jumped-on : (start : ℕ) → t ≤ start → start ≤ m → m - t < MINUTES
-      → mark (wiped (wiped w t (start - t)) start (m - start)) m ≡ heardAfter w m (min (m - t) MINUTES)
-  jumped-on start p q h = ap (λ (x : List ℕ). mark x m) (sym (wiped-on w t start m p q)) ∙ jumped-some h
+  -- those before `start`, if any, and then those from there on
+  pub jumped-on : (start : ℕ) → start ≤ m → m - t < MINUTES
+      → mark (wiped (wiped w t (start - t)) (max t start) (m - max t start)) m ≡ heardAfter w m (min (m - t) MINUTES)
+  jumped-on start q h = go (decLt start t)
+    where
+      go : Dec (start < t) → mark (wiped (wiped w t (start - t)) (max t start) (m - max t start)) m ≡ heardAfter w m (min (m - t) MINUTES)
+      go (yes p) =
+          let from : max t start ≡ t = omega arith in
+          ap₂ (λ (x : List ℕ) (f : ℕ). mark (wiped x f (m - f)) m) (wiped-none w t start (omega arith)) from ∙ jumped-some h
+      go (no p) =
+          let from : max t start ≡ start = omega arith in
+          ap (λ (f : ℕ). mark (wiped (wiped w t (start - t)) f (m - f)) m) from
+          ∙ ap (λ (x : List ℕ). mark x m) (sym (wiped-on w t start m (omega arith) q))
+          ∙ jumped-some h
 
   pub jumped-all : length w ≡ WINDOW → Fits w → MINUTES ≤ m - t + 1 → mark (wiped w 0 MINUTES) m ≡ heardAfter w m (min (m - t) MINUTES)
   jumped-all e f h = go (ℕ-discrete (m - t + 1) MINUTES)

@@ -4,7 +4,7 @@ ghost use mathlib.Core.Path.{_≡_};
 ghost use Prim.Native.Nat.{ℕ, _+_, _-_, _*_, _/_, _%_, _^_, _≤_, _<_, min, max};
 ghost use lib.ListN.{length, getD};
 ghost use Rattle.window.specs.Layout.{MINUTES, WINDOW, wordOf, cellOf};
-ghost use Rattle.window.specs.Bits.{bit, marked, total};
+ghost use Rattle.window.specs.Bits.{bit, total};
 ghost use Rattle.window.specs.Window.{next, bitOf, present, kept, mark, wiped, accepted, Taken, absents};
 
 // Minutes kept for a channel: the newest and those before it.
@@ -47,15 +47,6 @@ fn bit(w: u64, k: u64) -> u64
     w / number::power(k) % 2
 }
 
-// w with its bit k set.
-fn marked(w: u64, k: u64) -> u64
-    requires { ⌜ (k < 64) × (w < 2 ^ 64) ⌝ }
-    ensures { λ r. ⌜ r ≡ marked w k ⌝ }
-{
-    let p = number::power(k);
-    if w / p % 2 == 0 { w + p } else { w }
-}
-
 // How many of the n bits of w from o on are set.
 fn ones_in(w: u64, o: u64, n: u64) -> u64
     requires { ⌜ (0 < n) × (o + n ≤ 64) ⌝ }
@@ -86,16 +77,6 @@ fn heard_among(window: &[u64], from: u64, n: u64) -> u64
     sum + ones_in(window[i], at % 64, to - at)
 }
 
-// Marks a minute as heard.
-fn mark(window: &mut [u64], m: u64)
-    requires { ⌜ length (now window) ≡ WINDOW ⌝ }
-    ensures { λ r. ⌜ now (window .exit) ≡ mark (now (window .entry)) m ⌝ }
-{
-    let i = word_of(m);
-    let w = window[i];
-    window[i] = marked(w, m % 64);
-}
-
 // Marks a minute as heard, and those from `from` up to it, which share its word, as absent.
 fn mark_after(window: &mut [u64], from: u64, m: u64)
     requires { ⌜ (length (now window) ≡ WINDOW) × (from ≤ m) × (from / 64 ≡ m / 64) ⌝ }
@@ -107,11 +88,15 @@ fn mark_after(window: &mut [u64], from: u64, m: u64)
     window[i] = (w / p / 2 * 2 + 1) * p + w % number::power(from % 64);
 }
 
-// Marks the minutes from `from` up to `to`, the first of a word, as absent: the first word from its minute on, the others whole.
+// Marks the minutes from `from` up to `to`, the first of a word, as absent: the first word from its minute on, the others whole. There may
+// be none.
 fn wipe(window: &mut [u64], from: u64, to: u64)
-    requires { ⌜ (length (now window) ≡ WINDOW) × (from < to) × (to % 64 ≡ 0) ⌝ }
+    requires { ⌜ (length (now window) ≡ WINDOW) × (to % 64 ≡ 0) ⌝ }
     ensures { λ r. ⌜ now (window .exit) ≡ wiped (now (window .entry)) from (to - from) ⌝ }
 {
+    if to <= from {
+        return;
+    }
     let i = word_of(from);
     let w = window[i];
     window[i] = w % number::power(from % 64);
@@ -121,30 +106,6 @@ fn wipe(window: &mut [u64], from: u64, to: u64)
         window[k] = 0;
         at += 64;
     }
-}
-
-// Marks a minute as heard, and those from t up to it as absent, no more of them than the window has.
-fn jump(window: &mut [u64], t: u64, m: u64)
-    requires { ⌜ (length (now window) ≡ WINDOW) × (t ≤ m) ⌝ }
-    ensures { λ r. ⌜ now (window .exit) ≡ mark (wiped (now (window .entry)) (m - min (m - t) MINUTES) (min (m - t) MINUTES)) m ⌝ }
-{
-    if t == m {
-        mark(window, m);
-        return;
-    }
-    let start = m - m % 64;
-    if start <= t {
-        mark_after(window, t, m);
-        return;
-    }
-    if m - t < MINUTES - 1 {
-        wipe(window, t, start);
-        mark_after(window, start, m);
-        return;
-    }
-    // none that was heard is within reach of m
-    wipe(window, 0, MINUTES);
-    mark(window, m);
 }
 
 // a - b, or 0.
@@ -166,13 +127,29 @@ fn smaller(a: u64, b: u64) -> u64
     if a < b { a } else { b }
 }
 
+// Marks the minutes from t up to the word of m as absent, or all of them where none that was heard is within reach of m. Tells from which
+// minute on those in that word are left.
+fn clear_before(window: &mut [u64], t: u64, m: u64) -> u64
+    requires { ⌜ (length (now window) ≡ WINDOW) × (t ≤ m) ⌝ }
+    ensures { λ r. ⌜ (r ≤ m) × (r / 64 ≡ m / 64) × (mark (wiped (now (window .exit)) r (m - r)) m ≡ mark (wiped (now (window .entry)) (m - min (m - t) MINUTES) (min (m - t) MINUTES)) m) ⌝ }
+{
+    if m - t >= MINUTES - 1 {
+        wipe(window, 0, MINUTES);
+        return m;
+    }
+    let start = m - m % 64;
+    wipe(window, t, start);
+    larger(t, start)
+}
+
 // Keeps a value for a minute that is later than the newest; the minutes jumped over become absent.
 fn keep(window: &mut [u64], m: u64, value: u64)
     requires { ⌜ (length (now window) ≡ WINDOW) × (getD (now window) 0 0 ≤ m) × (m + 1 < 2 ^ 64) ⌝ }
     ensures { λ r. ⌜ now (window .exit) ≡ accepted (now (window .entry)) m value ⌝ }
 {
     let t = window[NEXT];
-    jump(window, t, m);
+    let from = clear_before(window, t, m);
+    mark_after(window, from, m);
     let k = cell_of(m);
     window[k] = value;
     window[NEXT] = m + 1;

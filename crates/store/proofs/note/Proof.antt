@@ -2,9 +2,9 @@
 use mathlib.Core.Path.{_≡_, refl, sym, ap, subst, _∙_}
 use mathlib.Core.Bool.{true}
 use mathlib.Core.List.{List}
-use Prim.Native.Nat.{ℕ}
+use Prim.Native.Nat.{ℕ, _≤_}
 use denote.Ref.{now}
-use lib.Dec.{leb}
+use lib.Dec.{leb, lit<}
 use lib.IntN.{pos}
 use borrow.Author.Tests.{not-true, not-false}
 use Rattle.quantity.specs.Limits.{inside, degrees, lastMinute}
@@ -20,7 +20,7 @@ use borrow.Author.Needs.{needs}
 use Rattle.store.proofs.note.Statement.{statement}
 use Rattle.store.proofs.note.Tie as tie
 use Rattle.block.proofs.is_store.Reads as is-store-reads
-use Rattle.store.proofs.wind_cell.Reads as wind-cell-reads
+use Rattle.cell.proofs.pair_cell.Reads as pair-cell-reads
 use Rattle.number.proofs.Number.whole.Reads as whole-reads
 use Rattle.quantity.proofs.Degrees.holds.Reads as Degrees-holds-reads
 use Rattle.quantity.proofs.Minute.holds.Reads as Minute-holds-reads
@@ -116,11 +116,13 @@ work-requires c κs = search needs
 enum-known-v : tie.Need-enum-known-v
 enum-known-v c = search needs
 
-wind-cell-requires : tie.Need-wind-cell-requires
-wind-cell-requires c κs = search needs
+pair-cell-requires : tie.Need-pair-cell-requires
+pair-cell-requires c κs = search needs
 
 keep-requires : tie.Need-keep-requires
-keep-requires c κs = search needs
+keep-requires c κs =
+    let left = c .before .before .before .before .before .before .before in
+    (c .before .keep-arg .given .0 .1, lit< tt, subst (λ (k : ℕ). k ≤ n (three (left .before)) .minute) (following (left .before)) (left .if4 .left))
 
 enum-told : tie.Need-enum-told
 enum-told c = search needs
@@ -137,10 +139,10 @@ returns-5 c =
     let left = work .before .before in
     let k = three (left .before) in
     let r = c .before .before .before .before .v .given in
-    let v = c .before .wind-cell in
-    subst (λ (x : List ℕ). Notes (s k) x (n k) Heard) (sym (c .keep .ensures .1))
-    (notes-kept (s k) (n k) (is k) (time k) (way k) (following (left .before)) (left .if4 .left) (ApparentWind (r .0 .0) (r .0 .1 .0)) (v .result) (c .before .before .keep-arg .given .0 .1)
-    (sym (ap (workedAs (n k .minute)) (r .1)) ∙ work .work .ensures) (v .ensures (n k .minute)))
+    let v = c .before .pair-cell in
+    subst (λ (x : List ℕ). Notes (s k) x (n k) Heard) (sym (c .keep .ensures))
+    (notes-kept (s k) (n k) (is k) (time k) (way k) (following (left .before)) (left .if4 .left) (ApparentWind (r .0 .0) (r .0 .1 .0)) (v .result)
+    (sym (ap (workedAs (n k .minute)) (r .1)) ∙ work .work .ensures) (v .ensures))
 
 returns-6 : tie.Need-returns-6
 returns-6 c =
@@ -178,7 +180,7 @@ note-spec =
     returns-4
     work-requires
     enum-known-v
-    wind-cell-requires
+    pair-cell-requires
     keep-requires
     enum-told
     enum-told-2

@@ -22,6 +22,9 @@ Inv-loop window₀ from to i w at₀ window at =
 abbrev μ-loop : tie.MeasureT-loop
 μ-loop window₀ from to i w at₀ window at = to - at
 
+returns : tie.Need-returns Inv-loop μ-loop
+returns c = let a = c .before .before .args in sym (wiped-none (a .window .now) (a .from) (a .to) (c .if1 .taken))
+
 word-of-requires : tie.Need-word-of-requires Inv-loop μ-loop
 word-of-requires c κs = search needs
 
@@ -51,7 +54,7 @@ add-at c = search needs
 
 loop-holds : tie.Need-loop-holds Inv-loop μ-loop
 loop-holds c =
-    let w = c .before .before .before .before .args .window .now in
+    let w = c .before .before .before .before .before .args .window .now in
     let x = getD w (c .before .before .word-of .result) 0 in (
       search needs,
       omega arith,
@@ -80,7 +83,7 @@ loop-less c = search needs
 loop-again : tie.Need-loop-again Inv-loop μ-loop
 loop-again c =
     let l = c .before .before .loop in
-    let to = c .before .before .before .before .before .before .before .args .to in (
+    let to = c .before .before .before .before .before .before .before .before .args .to in (
       search needs,
       omega arith,
       search needs,
@@ -93,11 +96,11 @@ loop-again c =
 same-length : tie.Need-same-length Inv-loop μ-loop
 same-length c = search needs
 
-returns : tie.Need-returns Inv-loop μ-loop
-returns c =
+returns-2 : tie.Need-returns-2 Inv-loop μ-loop
+returns-2 c =
     let l = c .before .loop in
     let s = c .before .before in
-    let a = s .before .before .before .before .args in
+    let a = s .before .before .before .before .before .args in
     sym (wiped-none (l .window) (l .at) (a .to) (search needs))
     ∙ l .inv .4
     ∙ wiped-first (a .window .now) (a .from) (a .to) (search needs) (λ j. s .before .slice-known2 .given j .fits) (search needs) (search needs) _ _
@@ -110,6 +113,7 @@ wipe-spec =
     (tie.spec
     Inv-loop
     μ-loop
+    returns
     word-of-requires
     mul-w
     slice-read-w
@@ -127,4 +131,4 @@ wipe-spec =
     loop-less
     loop-again
     same-length
-    returns)
+    returns-2)
