@@ -1,7 +1,7 @@
 -- The laws of the block: what a channel's window that is replaced leaves of the rest. Assumes nothing.
-use mathlib.Core.Path.{_≡_, refl, sym, ap, _∙_}
+use mathlib.Core.Path.{_≡_, sym, ap, _∙_}
 use mathlib.Core.List.{List, _++_}
-use Prim.Native.Nat.{ℕ, _+_, _-_, _*_, _≤_, _<_}
+use Prim.Native.Nat.{ℕ, _+_, _-_, _≤_, _<_}
 use native.Mathlib.Decide.{decLt}
 use native.Mathlib.Omega.{arith}
 use lib.ListN.{take, drop, length, length-append, length-take, length-drop, take-append-drop}
@@ -17,11 +17,6 @@ window-long s c e l = simp (length-take, length-drop) (omega arith)
 -- the end less the start, as the code computes them
 pub span : (c : ℕ) → base c + WINDOW - base c ≡ WINDOW
 span c = omega arith
-
--- a window put back where it was
-pub put-back : (s : List ℕ) (c : ℕ) → replaced s c (windowOf c s) ≡ s
-put-back s c =
-    ap (λ (l : List ℕ). take (base c) s ++ l) (take-append-drop WINDOW (drop (base c) s)) ∙ take-append-drop (base c) s
 
 -- a part of the first of two lists, and of the second
 front-only : (p q : List ℕ) (b n : ℕ) → b + n ≤ length p → take n (drop b (p ++ q)) ≡ take n (drop b p)

@@ -2,22 +2,18 @@
 -- the same value. Assumes nothing.
 use mathlib.Core.Path.{_≡_, refl, sym, ap, ap₂, _∙_}
 use mathlib.Core.Bool.{Bool, true, false, not}
-use mathlib.Core.List.{List}
-use Prim.Native.Nat.{ℕ, zero, suc, _+_, _-_, _*_, _/_, _<_}
+use Prim.Native.Nat.{ℕ, zero, suc, _+_, _-_, _*_, _<_}
 use native.Mathlib.Omega.{arith}
 use native.Mathlib.Nat.{mul-le-mul-right, mul-pos}
 use lib.IntN.{ℤ, pos, negsuc, negℤ, _+ℤ_, _*ℤ_}
-use lib.ListN.{getD}
 use lib.Signed.{leZ}
 use Rattle.number.specs.Round.{rounded}
 use Rattle.number.proofs.RoundLaws.{nearest-same, rounded-odd}
 use Rattle.settings.specs.Settings.{every}
-use Rattle.cell.specs.Cells.{unbiased}
 use Rattle.certificate.specs.declared.Corner.{Corner}
-use Rattle.certificate.specs.Line.{stands, between, valueFrom, noneRound, valued, cornerIn, cornerAt}
+use Rattle.certificate.specs.Line.{stands, between, valueFrom, noneRound, valued}
 use Rattle.certificate.proofs.OrderLaws.{up, down, at-most, above, same, up-times, down-times, sum-is, times-at-most}
 use Rattle.certificate.proofs.LineLaws.{Distances, distances, weighed, between-is}
-use Rattle.certificate.proofs.SameLaws.{same-valued}
 
 -- A corner that reads k times as much and gives the same.
 abbrev pub stretched : ℕ → Corner → Corner
@@ -135,15 +131,3 @@ module _ (k : ℕ) (some : 0 < k) where
     pub same-rate : (n : ℕ) → valued (λ i. stretched k (corner i)) n (x *ℤ pos k) ≡ valued corner n x
     unfolding valued
     same-rate n = rw (none-of-rate (n - 1), value-of-rate (n - 1))
-
--- The same of words: k times the turns in k times the seconds.
-pub same-rate-at : (words : List ℕ) (scale k n : ℕ) (x : ℤ) → 0 < k → valued (cornerAt (scale * k) words) n (x *ℤ pos k) ≡ valued (cornerAt scale words) n x
-same-rate-at words scale k n x some =
-    same-valued (cornerAt (scale * k) words) (λ i. stretched k (cornerAt scale words i)) (x *ℤ pos k) n (λ i h. times (getD words i 0))
-    ∙ same-rate k some (cornerAt scale words) x n
-  where
-    make : ℕ → ℤ → Corner
-    make w z = record { reads = record { v = z }; gives = record { v = unbiased (w / 65536) } }
-
-    times : (w : ℕ) → cornerIn (scale * k) w ≡ stretched k (cornerIn scale w)
-    times w = ap (make w) (times-times (unbiased w) scale k)

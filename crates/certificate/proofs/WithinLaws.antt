@@ -9,14 +9,13 @@ use native.Mathlib.Numerals.{add-one}
 use lib.Dec.{T}
 use lib.IntN.{ℤ, pos, _*ℤ_}
 use lib.Signed.{leZ}
-use Rattle.number.specs.Refusal.{given}
 use Rattle.number.specs.Round.{rounded}
 use Rattle.number.specs.Whole.{within}
 use Rattle.number.proofs.RoundLaws.{rounded-monotone, rounded-whole}
 use Rattle.number.proofs.Sizes.{impossible, and-true, both}
 use Rattle.settings.specs.Settings.{every}
 use Rattle.certificate.specs.declared.Corner.{Corner}
-use Rattle.certificate.specs.Line.{stands, between, valueFrom, noneRound, valued}
+use Rattle.certificate.specs.Line.{stands, between, valueFrom, noneRound}
 use Rattle.certificate.proofs.OrderLaws.{at-most, is-at-most, up-times, down-times, sum-is, times-at-most}
 use Rattle.certificate.proofs.LineLaws.{distances, weighed, between-is}
 
@@ -113,11 +112,3 @@ module _ (corner : ℕ → Corner) (x lo hi : ℤ) where
     pub value-within : noneRound corner x (n - 1) ≡ false → within lo hi (valueFrom corner x 0 (n - 1)) ≡ true
     unfolding noneRound
     value-within e = from-within 0 (n - 1) (λ j z h. f j (omega arith)) e
-
-    pub valued-within : (z : ℤ) → valued corner n x ≡ given z → within lo hi z ≡ true
-    unfolding valued
-    valued-within z e = go (noneRound corner x (n - 1)) refl
-      where
-        go : (t : Bool) → noneRound corner x (n - 1) ≡ t → within lo hi z ≡ true
-        go true a = let e′ = rw a at e in impossible (cc)
-        go false a = let e′ = rw a at e in let is : valueFrom corner x 0 (n - 1) ≡ z = cc in subst (λ (k : ℤ). within lo hi k ≡ true) is (value-within a)

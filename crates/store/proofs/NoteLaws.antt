@@ -1,13 +1,12 @@
 -- From the tests that the code makes to what the store answers an entry, and what the block then holds. Assumes nothing.
 use mathlib.Core.Path.{_≡_, refl, sym, ap, _∙_}
 use mathlib.Core.Bool.{true, false}
-use mathlib.Core.List.{List, []}
+use mathlib.Core.List.{List}
 use Prim.Native.Nat.{ℕ, _<_, _≤_}
-use native.Mathlib.Omega.{arith}
 use lib.Dec.{leb, ltb}
 use lib.IntN.{pos}
 use borrow.Author.Tests.{leb-true, leb-false, le-ltb, lt-ltb}
-use Rattle.number.specs.Refusal.{Numbered, numbered, refused, given, answer}
+use Rattle.number.specs.Refusal.{Numbered, refused, given, answer}
 use Rattle.quantity.specs.Limits.{inside, degrees, lastMinute}
 use Rattle.message.specs.Receive.{Entry, entryOf}
 use Rattle.message.specs.declared.Reading.{Reading}
@@ -18,7 +17,7 @@ use Rattle.window.specs.Window.{accepted}
 use Rattle.block.specs.Words.{isStore, windowOf, replaced}
 use Rattle.anemometer.specs.Anemometer.{certificateHeld}
 use Rattle.anemometer.specs.declared.Note.{Note}
-use Rattle.store.specs.Block.{newestTests, nextIn, keptBy, heardAs, outcome, windChannel}
+use Rattle.store.specs.Block.{newestTests, nextIn, heardAs, outcome, windChannel}
 use Rattle.store.specs.Noting.{windEntry, courseAt, worked, noting, notedBy, Notes}
 use Rattle.store.specs.declared.Hearing.{Hearing}
 use Rattle.store.specs.declared.Hearing.the-variants.{Heard, Refused, NoStore}
