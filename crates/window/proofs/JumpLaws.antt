@@ -1,5 +1,5 @@
--- What jumping over minutes leaves: where as many are wiped as the window has, all its bits are cleared, from whatever minute on, and whether
--- the minute that is heard was among them does not matter. Assumes nothing.
+-- What jumping over minutes leaves: where as many are wiped as the window has, all its bits are cleared, from whatever minute on, and
+-- whether the minute that is heard was among them does not matter. Assumes nothing.
 use mathlib.Core.Path.{_≡_, refl, sym, ap, ap₂, _∙_, subst}
 use mathlib.Core.List.{List}
 use Prim.Native.Nat.{ℕ, zero, suc, _+_, _-_, _*_, _/_, _%_, _^_, _≤_, _<_, min, max}
