@@ -94,8 +94,9 @@ typedef struct {
  * block stays as it was. 1, not 16 bytes; 2, channel above 5; 3, a byte that must be zero isn't; 4, the wet bulb's state is above 2;
  * 5, minute above 16777215; 6, infinite or not a number; 7, outside limits; 8, the minute is that of the channel's newest; 19, it is
  * earlier, with the minutes between. A channel's first message gets neither 8 nor 19. Before all of them: ZHITOMRAK_NO_STORE, the
- * block was never opened, and stays as it was too. Byte 1 of a wet bulb's message is its state, which is kept with the reading: 0
- * water, 1 ice, 2 unknown. On every other channel that byte must be zero. */
+ * block was never opened, and stays as it was too. What is kept are tenths and whole degrees, of an exact half the even one, and
+ * limits are those of what is kept. Byte 1 of a wet bulb's message is its state, which is kept with the reading: 0 water, 1 ice, 2
+ * unknown. On every other channel that byte must be zero. */
 zhitomrak_heard zhitomrak_hear(zhitomrak_store *store, const uint8_t *message, size_t length);
 
 /* The wind as a mate notes it by the hand anemometer. */

@@ -4,6 +4,7 @@
 //!
 //! usage: messages PROGRAM COUNT [SEED]
 
+use std::cmp::Ordering;
 use std::io::{Read, Write};
 use std::process::{Command, Stdio};
 
@@ -26,23 +27,29 @@ impl Random {
     }
 }
 
-/// `times` times the value of a finite binary32 pattern, to the nearest whole number, halves away from zero.
-fn rounded(bits: u32, times: u128) -> i128 {
+/// `times` times the value of a finite binary32 pattern, to the nearest whole number, on an exact half to the even one; and whether it
+/// was one.
+fn rounded(bits: u32, times: u128) -> (i128, bool) {
     let field = (bits >> 23 & 0xff) as i32;
     let fraction = (bits & 0x7f_ffff) as u128;
     let (digits, exponent) = if field == 0 { (fraction, -149) } else { (fraction | 1 << 23, field - 150) };
     let size = digits * times;
-    let whole = if exponent >= 60 {
-        1 << 90 // beyond every limit
+    let (whole, half) = if exponent >= 60 {
+        (1 << 90, false) // beyond every limit
     } else if exponent >= 0 {
-        size << exponent
+        (size << exponent, false)
     } else if exponent <= -64 {
-        0
+        (0, false)
     } else {
         let down = 1u128 << -exponent;
-        (2 * size + down) / (2 * down)
+        let (below, rest) = (size / down, size % down);
+        match (2 * rest).cmp(&down) {
+            Ordering::Less => (below, false),
+            Ordering::Greater => (below + 1, false),
+            Ordering::Equal => (below.next_multiple_of(2), true),
+        }
     };
-    if bits >> 31 == 1 { -(whole as i128) } else { whole as i128 }
+    (if bits >> 31 == 1 { -(whole as i128) } else { whole as i128 }, half)
 }
 
 /// The line that the documents ask for.
@@ -77,8 +84,8 @@ fn expected(m: &[u8], mm_hg: bool) -> String {
         3 => (0, 400),
         _ => (-400, 500),
     };
-    let first = rounded(x, 10);
-    let angle = rounded(y, 1);
+    let (first, _) = rounded(x, 10);
+    let (angle, _) = rounded(y, 1);
     if first < low || first > high || two && !(0..=360).contains(&angle) {
         return "refused 7".into();
     }
@@ -129,8 +136,14 @@ fn message(r: &mut Random) -> [u8; 16] {
     m
 }
 
-/// How many lines were compared, or the first that differs.
-fn compare(program: &str, unit: &str, sent: &[u8]) -> Result<usize, String> {
+/// Whether a value of a message is an exact half, of a tenth or of a degree.
+fn has_half(m: &[u8]) -> bool {
+    let word = |at: usize| u32::from_le_bytes([m[at], m[at + 1], m[at + 2], m[at + 3]]);
+    rounded(word(8), 10).1 || rounded(word(12), 1).1
+}
+
+/// How many lines were compared, or the first that differs. Messages that are kept and have a half are counted by channel.
+fn compare(program: &str, unit: &str, sent: &[u8], halves: &mut [usize; 6]) -> Result<usize, String> {
     let mut child = Command::new("tests/x86")
         .args([program, unit])
         .stdin(Stdio::piped())
@@ -153,6 +166,9 @@ fn compare(program: &str, unit: &str, sent: &[u8]) -> Result<usize, String> {
             return Err(format!("{unit} {m:02x?}: the program says '{says}', the documents '{wants}'"));
         }
         count += 1;
+        if !wants.starts_with("refused") && has_half(m) {
+            halves[usize::from(m[0])] += 1;
+        }
     }
     match lines.next() {
         None => Ok(count),
@@ -166,10 +182,11 @@ fn main() {
     let seed: u64 = words.get(3).map_or(20_261_115, |w| w.parse().expect("SEED is a number"));
     let mut r = Random(seed.max(1));
     let mut total = 0;
+    let mut halves = [0; 6];
     for unit in ["hPa", "mmHg"] {
         let mut sent: Vec<u8> = (0..count).flat_map(|_| message(&mut r)).collect();
         sent.truncate(sent.len() - r.below(15) as usize - 1);
-        match compare(&words[1], unit, &sent) {
+        match compare(&words[1], unit, &sent, &mut halves) {
             Ok(n) => total += n,
             Err(e) => {
                 eprintln!("messages: seed {seed}: {e}");
@@ -177,5 +194,9 @@ fn main() {
             }
         }
     }
-    println!("messages: {total} compared, 0 differ (seed {seed})");
+    if halves.contains(&0) {
+        eprintln!("messages: seed {seed}: no half was compared on some channel: {halves:?}");
+        std::process::exit(1);
+    }
+    println!("messages: {total} compared, 0 differ; halves kept, by channel: {halves:?} (seed {seed})");
 }

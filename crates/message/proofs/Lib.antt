@@ -1,4 +1,5 @@
 pub mod Rule
+pub mod ValueLaws
 pub mod Pattern
 pub mod Ten
 pub mod Keep

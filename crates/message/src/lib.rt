@@ -44,7 +44,8 @@ pub enum Received {
 
 // ---- floats
 
-// m / 2^k to the nearest whole number, a half away from zero: the one place that knows the rule for a half.
+// m / 2^k to the nearest whole number, a half to the even neighbour: the one place that knows the rule for a half. Twice the remainder
+// is held against 2^k, with one more where the whole part is odd, which decides only on a half.
 fn nearest(m: u64, k: u64) -> u64
     requires { ⌜ (m < 2 ^ 53) × (k < 64) ⌝ }
     ensures { λ r. ⌜ r ≡ toWhole m (2 ^ k) ⌝ }
@@ -52,7 +53,7 @@ fn nearest(m: u64, k: u64) -> u64
     let c = number::power(k);
     let q = m / c;
     let r = m % c * 2;
-    if r < c { q } else { q + 1 }
+    if r + q % 2 <= c { q } else { q + 1 }
 }
 
 // The size of the f64 with this exponent's field and these digits, to the nearest whole number.

@@ -19,11 +19,11 @@ apart : (m n : ℕ) → 0 < n → T (leZ (pos m) (negℤ (pos n))) → ⊥
 apart m zero h t = not-suc-le-zero h
 apart m (suc n) h t = t
 
-minus-le : (m n : ℕ) → T (leZ (negℤ (pos m)) (pos n))
+pub minus-le : (m n : ℕ) → T (leZ (negℤ (pos m)) (pos n))
 minus-le zero n = le→leb 0 n zero-le
 minus-le (suc m) n = tt
 
-minus-minus : (m n : ℕ) → n ≤ m → T (leZ (negℤ (pos m)) (negℤ (pos n)))
+pub minus-minus : (m n : ℕ) → n ≤ m → T (leZ (negℤ (pos m)) (negℤ (pos n)))
 minus-minus m zero h = minus-le m 0
 minus-minus zero (suc n) h = absurd (not-suc-le-zero h)
 minus-minus (suc m) (suc n) h = le→leb n m (le-of-suc-le-suc h)

@@ -1,4 +1,4 @@
--- The rounding rule.
+-- The rounding rule. (Only a message's value goes another way, on an exact half: `toWhole` in crate `message`.)
 use Prim.Native.Nat.{ℕ, suc, _+_, _*_, _/_}
 use lib.IntN.{ℤ, pos, negsuc, negℤ}
 

@@ -1,4 +1,4 @@
-// Whole numbers with a sign, and the one rounding rule.
+// Whole numbers with a sign, and the rounding rule. (Only a message's value goes another way, on an exact half: crate `message`.)
 // A signed number stands in a struct, so that a contract speaks of the number and not of its bits.
 ghost use mathlib.Core.Path.{_≡_};
 ghost use Prim.Native.Nat.{ℕ, _+_, _*_, _<_, _^_};

@@ -59,6 +59,30 @@ fn anemometer(rates: &[(i32, i32)]) -> raw::Anemometer {
     told
 }
 
+/// Opens a store in the block, and gives the number that this came to.
+pub fn open(block: &mut [u64; raw::WORDS], chosen: &Chosen) -> u32 {
+    let mut points = [raw::Point::default(); raw::POINTS];
+    for (to, &(reading, correction)) in points.iter_mut().zip(&chosen.points) {
+        *to = raw::Point {
+            reading,
+            correction,
+        };
+    }
+    raw::open(
+        block,
+        raw::Settings {
+            unit: u32::from(chosen.mm_hg),
+            height: chosen.height,
+            difference: chosen.difference,
+            coefficient: chosen.coefficient,
+            psychrometer: chosen.psychrometer,
+            count: chosen.points.len() as u32,
+            points,
+            anemometer: anemometer(&chosen.rates),
+        },
+    )
+}
+
 /// What a question came to: figures, each of which fits 32 bits, or the refusal with its channel and minute.
 fn asked(why: raw::Refusal, figures: [i64; 5]) -> Answer {
     match (why.number, why.channel as usize, why.minute as usize) {
@@ -100,27 +124,8 @@ impl Both {
 
     fn open(&mut self, tally: &mut Tally, chosen: &Chosen) {
         self.told += &format!("{}\n", chosen.line());
-        let mut points = [raw::Point::default(); raw::POINTS];
-        for (to, &(reading, correction)) in points.iter_mut().zip(&chosen.points) {
-            *to = raw::Point {
-                reading,
-                correction,
-            };
-        }
         let was = self.proved.clone();
-        let a = raw::open(
-            &mut self.proved,
-            raw::Settings {
-                unit: u32::from(chosen.mm_hg),
-                height: chosen.height,
-                difference: chosen.difference,
-                coefficient: chosen.coefficient,
-                psychrometer: chosen.psychrometer,
-                count: chosen.points.len() as u32,
-                points,
-                anemometer: anemometer(&chosen.rates),
-            },
-        );
+        let a = open(&mut self.proved, chosen);
         let b = chosen.independent(|settings| self.independent.open(settings));
         let b = independent(b, |()| [0; 5]);
         tally.answers_to(To::Opening, "blocks, opened", opened(a), b, || {
@@ -213,7 +218,7 @@ const RATES: usize = 22;
 const FIRST_RATE: usize = RATES + 1;
 
 /// The word of a minute in a channel's window.
-fn cell(channel: usize, minute: u32) -> usize {
+pub fn cell(channel: usize, minute: u32) -> usize {
     FIRST_RATE + raw::ANEMOMETER_POINTS + 261 * channel + 5 + minute as usize % 256
 }
 

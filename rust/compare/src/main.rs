@@ -6,6 +6,7 @@
 mod blocks;
 mod dial;
 mod files;
+mod halves;
 mod heights;
 mod humidity;
 mod messages;
@@ -42,6 +43,7 @@ fn main() {
     watches::openings(&mut tally, &mut r, 20_000 * times);
     messages::compare(&mut tally, &mut r, 2_500 * times);
     messages::states(&mut tally);
+    halves::compare(&mut tally);
     messages::repeated_or_late(&mut tally, &mut r, 400 * times);
     messages::silences(&mut tally);
     watches::compare(&mut tally, &mut r, 100 * times);

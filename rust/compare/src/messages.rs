@@ -20,7 +20,7 @@ fn good(channel: u8, minute: u32, mm_hg: bool) -> [u8; 16] {
 }
 
 /// The limits of a channel's first value, in tenths.
-fn limits(channel: u8, mm_hg: bool) -> (i32, i32) {
+pub fn limits(channel: u8, mm_hg: bool) -> (i32, i32) {
     match channel {
         0 => barometer(mm_hg),
         1 => (-400, 600),

@@ -194,11 +194,13 @@ const fn finite(bits: u32) -> bool {
 }
 
 /// A finite binary32, times 1 or 10, rounded; nothing if it is 2^23 or more in
-/// size, which lies beyond every limit.
+/// size, which lies beyond every limit. "Rounding of a message's value goes to the
+/// even tenth or degree on an exact half."
 ///
 /// The value is its significand over a power of two, so the product is exact and
-/// the rounding is one on whole numbers: half the power is added to the size and
-/// the power taken out, which takes halves away from zero.
+/// the rounding is one on whole numbers: the power is taken out of the size with
+/// half of it added, or one less than half where the whole part is even, which
+/// keeps a half from reaching the next.
 #[inline]
 fn rounded(bits: u32, times: u64) -> Option<i32> {
     let exponent = bits >> 23 & 0xff;
@@ -214,7 +216,8 @@ fn rounded(bits: u32, times: u64) -> Option<i32> {
     let size = if power > 40 {
         0 // the product is below 2^28, far less than half of 2^power
     } else {
-        (product + (1 << (power - 1))) >> power
+        let odd = product >> power & 1;
+        (product + (1 << (power - 1)) - 1 + odd) >> power
     };
     let size = i32::try_from(size).ok()?;
     Some(if bits >> 31 == 1 { -size } else { size })
@@ -240,31 +243,50 @@ mod tests {
     }
 
     #[test]
-    fn tenths_take_halves_away_from_zero() {
-        assert_eq!(tenths(0.25f32.to_bits()), Some(3));
-        assert_eq!(tenths((-0.25f32).to_bits()), Some(-3));
+    fn tenths_take_halves_to_the_even_one() {
+        assert_eq!(tenths(0.25f32.to_bits()), Some(2));
+        assert_eq!(tenths((-0.25f32).to_bits()), Some(-2));
+        assert_eq!(tenths(0.75f32.to_bits()), Some(8));
+        assert_eq!(tenths((-0.75f32).to_bits()), Some(-8));
+        // Next to a half it is the nearest, whichever is even.
+        assert_eq!(tenths(0.25f32.to_bits() + 1), Some(3));
+        assert_eq!(tenths(0.75f32.to_bits() - 1), Some(7));
         assert_eq!(tenths((-0.0f32).to_bits()), Some(0));
         // 0.35 in binary32 is a little less than 0.35.
         assert_eq!(tenths(0.35f32.to_bits()), Some(3));
-        assert_eq!(tenths(1013.25f32.to_bits()), Some(10133));
+        assert_eq!(tenths(1013.25f32.to_bits()), Some(10132));
         assert_eq!(tenths(f32::from_bits(1).to_bits()), Some(0));
         assert_eq!(tenths(0.05f32.to_bits()), Some(1));
         assert_eq!(tenths(0.05f32.to_bits() - 1), Some(0));
         assert_eq!(tenths(8_388_607.5f32.to_bits()), Some(83_886_075));
+        assert_eq!(rounded(8_388_607.5f32.to_bits(), 1), Some(8_388_608));
         assert_eq!(tenths(8_388_608f32.to_bits()), None);
     }
 
-    /// A binary64 holds ten times any binary32 exactly, and its own rounding
-    /// takes halves away from zero: a second way to the same figure.
+    /// A binary64 holds ten times any binary32 exactly, and has a rounding that
+    /// takes ties to the even number: a second way to the same figure.
+    fn agrees_with_binary64(value: f32) {
+        let (bits, wide) = (value.to_bits(), f64::from(value));
+        let even = |x: f64| Some(x.round_ties_even() as i32);
+        assert_eq!(rounded(bits, 10), even(wide * 10.0), "{value}");
+        assert_eq!(rounded(bits, 1), even(wide), "{value}");
+    }
+
     #[test]
     fn agrees_with_binary64_over_the_whole_line() {
         for bits in (0..=u32::MAX).step_by(10_007) {
             let value = f32::from_bits(bits);
             if value.is_finite() && value.abs() < 8_388_608.0 {
-                let wide = f64::from(value);
-                assert_eq!(rounded(bits, 10), Some((wide * 10.0).round() as i32));
-                assert_eq!(rounded(bits, 1), Some(wide.round() as i32));
+                agrees_with_binary64(value);
             }
+        }
+    }
+
+    /// Each quarter is a half of a tenth or of a degree, or neither.
+    #[test]
+    fn agrees_with_binary64_on_every_half() {
+        for quarters in -8_000..=8_000 {
+            agrees_with_binary64(quarters as f32 / 4.0);
         }
     }
 
@@ -277,11 +299,17 @@ mod tests {
         };
         assert_eq!(from_bow(10.46), Ok(10));
         assert_eq!(from_bow(-0.4999), Ok(0));
-        assert_eq!(from_bow(-0.5), Err(7));
+        assert_eq!(from_bow(-0.5), Ok(0));
+        assert_eq!(from_bow(-0.500_000_06), Err(7));
+        assert_eq!(from_bow(-1.5), Err(7));
+        assert_eq!(from_bow(10.5), Ok(10));
+        assert_eq!(from_bow(11.5), Ok(12));
         assert_eq!(from_bow(360.0), Ok(0));
         assert_eq!(from_bow(360.4), Ok(0));
         assert_eq!(from_bow(359.5), Ok(0));
-        assert_eq!(from_bow(360.5), Err(7));
+        assert_eq!(from_bow(360.5), Ok(0));
+        assert_eq!(from_bow(360.500_03), Err(7));
+        assert_eq!(from_bow(361.5), Err(7));
         assert_eq!(from_bow(359.4), Ok(359));
     }
 

@@ -1,4 +1,4 @@
-//! The one rounding rule.
+//! The rounding rule. Only a message's value goes another way, on an exact half.
 
 /// "Round" means to the nearest, halves away from zero.
 ///

@@ -153,7 +153,8 @@ impl Store {
     }
 
     /// Hears a message of instruments, 16 bytes, and keeps its reading; or the first of refusals 1 to 8 and 19 whose reason holds,
-    /// and nothing has changed. Byte 1 of the wet bulb's message is its state, kept with the reading: 0 water, 1 ice, 2 unknown.
+    /// and nothing has changed. What is kept are tenths and whole degrees, of an exact half the even one, and limits are those of what
+    /// is kept. Byte 1 of the wet bulb's message is its state, kept with the reading: 0 water, 1 ice, 2 unknown.
     #[inline]
     pub fn hear(&mut self, message: &[u8]) -> Result<(), Refused> {
         heard(raw::hear(&mut self.block, message))

@@ -25,6 +25,9 @@ rem-r c = above c
 mul-r : tie.Need-mul-r
 mul-r c = omega (arith, mod-le (c .before .args .m) (c .power .result))
 
+add-if1 : tie.Need-add-if1
+add-if1 c = omega (arith, mod-le (c .before .args .m) (c .power .result))
+
 add-result : tie.Need-add-result
 add-result c = omega (arith, div-le-self (c .before .before .args .m) (c .before .power .result))
 
@@ -39,4 +42,4 @@ returns-2 c =
     Rule.more m (c .before .power .result) (above (c .before)) (c .if1 .left) ∙ ap (toWhole m) (c .before .power .ensures)
 
 pub nearest-spec : {M : Type 1} → statement M
-nearest-spec = tie.close (tie.spec power-requires div-q rem-r mul-r add-result returns returns-2)
+nearest-spec = tie.close (tie.spec power-requires div-q rem-r mul-r add-if1 add-result returns returns-2)

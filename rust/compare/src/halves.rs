@@ -1,0 +1,106 @@
+//! Messages whose values are exact halves, of a tenth or of a degree: each one that a channel's limits reach, and some beyond them, with
+//! both signs, and the values next to it on either side. What is kept is read out of the block, since an answer can hide it.
+
+use reference::message::{receive, Reading};
+use reference::settings::Unit;
+use zhitomrak::raw;
+
+use crate::blocks::{self, cell};
+use crate::messages::limits;
+use crate::pair::{hear_line, independent_refusal, message, Chosen};
+use crate::tally::{Answer, Tally, To};
+
+/// A value with either sign, and its neighbours.
+fn around(half: f32) -> impl Iterator<Item = f32> {
+    [half, -half].into_iter().flat_map(|half| {
+        let bits = half.to_bits();
+        [bits - 1, bits, bits + 1].map(f32::from_bits)
+    })
+}
+
+/// Ten times an odd quarter is a half: all that limits in tenths reach, and two beyond them.
+fn half_tenths(most: i32) -> impl Iterator<Item = f32> {
+    (0..most * 4 / 10 / 2 + 2).map(|n| (2 * n + 1) as f32 / 4.0)
+}
+
+/// All half degrees to 360.5, and two beyond.
+fn half_degrees() -> impl Iterator<Item = f32> {
+    (0..=362).map(|n| n as f32 + 0.5)
+}
+
+/// The figures that the proved side keeps of a channel's minute: of a temperature the word holds 32768 more.
+fn kept(block: &[u64; raw::WORDS], channel: u8, minute: u32) -> Answer {
+    let word = block[cell(channel.into(), minute)];
+    let more = if matches!(channel, 1 | 4 | 5) { 32_768 } else { 0 };
+    Answer::Given([(word & 0xffff) as i32 - more, (word >> 16) as i32, 0, 0, 0])
+}
+
+/// Those of the independent side.
+fn keeps(reading: Reading) -> Answer {
+    let (first, second) = match reading {
+        Reading::Barometer(x) | Reading::Wheelhouse(x) | Reading::DryBulb(x) => (x, 0),
+        Reading::ApparentWind(wind) => (wind.speed, wind.from_bow),
+        Reading::ShipMotion(ship) => (ship.speed, ship.course),
+        Reading::WetBulb(bulb) => (bulb.temperature, bulb.state as i16),
+    };
+    Answer::Given([first.into(), second.into(), 0, 0, 0])
+}
+
+struct Block {
+    words: Box<[u64; raw::WORDS]>,
+    unit: Unit,
+    minute: u32,
+}
+
+impl Block {
+    fn open(mm_hg: bool) -> Block {
+        let mut words = Box::new([0; raw::WORDS]);
+        let number = blocks::open(&mut words, &Chosen::plain(mm_hg));
+        assert_eq!(number, 0, "plain settings open");
+        let unit = if mm_hg { Unit::MmHg } else { Unit::HPa };
+        Block {
+            words,
+            unit,
+            minute: 0,
+        }
+    }
+
+    /// Sends a message of the next minute, and compares what is kept of it, or why nothing is.
+    fn send(&mut self, tally: &mut Tally, channel: u8, first: f32, second: f32) {
+        self.minute += 1;
+        let m = message(channel, self.minute, first, second);
+        let a = match raw::hear(&mut self.words, &m).number {
+            0 => kept(&self.words, channel, self.minute),
+            number => Answer::Refused(number, 0, 0),
+        };
+        let b = receive(&m, self.unit).map_or_else(independent_refusal, |m| keeps(m.reading));
+        tally.answers_to(To::Message, "halves, kept", a, b, || hear_line(&m));
+    }
+}
+
+pub fn compare(tally: &mut Tally) {
+    for mm_hg in [false, true] {
+        let mut block = Block::open(mm_hg);
+        for channel in [0, 1, 4, 5] {
+            let (low, high) = limits(channel, mm_hg);
+            for first in half_tenths(high.max(-low)).flat_map(around) {
+                block.send(tally, channel, first, 0.0);
+            }
+        }
+        for channel in [2, 3] {
+            let (_, most) = limits(channel, mm_hg);
+            for first in half_tenths(most).flat_map(around) {
+                for second in half_degrees().flat_map(around) {
+                    block.send(tally, channel, first, second);
+                }
+            }
+            // Whole and half of each beside the other, so that neither refuses for both.
+            for second in half_degrees().flat_map(around) {
+                block.send(tally, channel, 1.0, second);
+            }
+            for first in half_tenths(most).flat_map(around) {
+                block.send(tally, channel, first, 1.0);
+            }
+        }
+    }
+}
