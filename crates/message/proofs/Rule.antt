@@ -129,9 +129,12 @@ monotone a b c d B D h = go (decLe (toWhole a b) (toWhole c d))
         in
         let first : 2 * a + b ≤ (q + 1) * (2 * b) = le-of-mul-le-mul-right {k = d} (le-trans cross (le-trans (mul-le-mul-right b hi) (le-of-eq turned))) D in
         let second : (q + 1) * (2 * d) ≤ 2 * c + d = le-of-mul-le-mul-right {k = b} (le-trans (le-of-eq turned) (le-trans (mul-le-mul-right d lo) cross)) B in
-        omega (arith, l,
+        omega (
+          arith,
+          l,
           half-goes a b q B (omega (arith, lo, first, next-times q b, odd-times q b)),
-          half-goes c d q D (omega (arith, hi, second, next-times q d, odd-times q d)))
+          half-goes c d q D (omega (arith, hi, second, next-times q d, odd-times q d)),
+        )
 
     go : Dec (toWhole a b ≤ toWhole c d) → toWhole a b ≤ toWhole c d
     go (yes k) = k

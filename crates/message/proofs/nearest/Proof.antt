@@ -34,12 +34,12 @@ add-result c = omega (arith, div-le-self (c .before .before .args .m) (c .before
 returns : tie.Need-returns
 returns c =
     let m = c .before .before .args .m in
-    Rule.less m (c .before .power .result) (above (c .before)) (c .if1 .taken) ∙ ap (toWhole m) (c .before .power .ensures)
+    Rule.less m (c .before .power .result) (above (c .before)) (omega (arith, c .if1 .taken)) ∙ ap (toWhole m) (c .before .power .ensures)
 
 returns-2 : tie.Need-returns-2
 returns-2 c =
     let m = c .before .before .args .m in
-    Rule.more m (c .before .power .result) (above (c .before)) (c .if1 .left) ∙ ap (toWhole m) (c .before .power .ensures)
+    Rule.more m (c .before .power .result) (above (c .before)) (omega (arith, c .if1 .left)) ∙ ap (toWhole m) (c .before .power .ensures)
 
 pub nearest-spec : {M : Type 1} → statement M
 nearest-spec = tie.close (tie.spec power-requires div-q rem-r mul-r add-if1 add-result returns returns-2)
