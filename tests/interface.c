@@ -4,7 +4,7 @@
  * minute of the channel's newest, 19 with the minutes between for an earlier one, and every word of the store as it was. The wet bulb
  * has states 0 to 2, each of its minutes its own, and humidity goes by it. The hand anemometer's certificate keeps its rules or is
  * refused, after what 9 and 10 are for; its entries are noted, or refused by every number that they can get, and every word of the store
- * as it was. */
+ * as it was. Halves of a message's value go to the even tenth or degree, those of an entry's speed away from zero. */
 #include <stddef.h>
 #include <stdio.h>
 #include <string.h>
@@ -395,7 +395,40 @@ static int entries(void)
     return notes(&store, (entered){{1000, 10, 9900, 200, 60}, 24, 0, 0, 0});
 }
 
+/* A wind from its head, whose figures may be exact halves; what hearing it comes to, and what is kept of it. */
+typedef struct {
+    float speed;
+    float direction;
+    uint32_t number;
+    uint32_t kept_speed;
+    uint32_t kept_direction;
+} blown;
+
+static const blown winds[] = {
+    {8.25f, 10.5f, 0, 82, 10}, {8.75f, 11.5f, 0, 88, 12}, {8.0f, 359.5f, 0, 80, 360}, {8.0f, 360.5f, 0, 80, 360},
+    {8.0f, -0.5f, 0, 80, 360}, {8.0f, 361.5f, 7, 0, 0},   {8.0f, -1.5f, 7, 0, 0},
+};
+
+/* The ship lies still with her bow to the north, so the true wind is the one that was kept. */
+static int halves(void)
+{
+    static zhitomrak_store store;
+    if (opens(&store))
+        return 1;
+    uint32_t minute = 1000;
+    for (size_t i = 0; i < sizeof winds / sizeof winds[0]; i++, minute++) {
+        blown w = winds[i];
+        if (pairs(&store, 3, minute, 0, 0, 0) || pairs(&store, 2, minute, w.speed, w.direction, w.number))
+            return 1;
+        if (w.number == 0 && blows(&store, minute, w.kept_speed, w.kept_direction))
+            return 1;
+    }
+    /* 150 divisions in a minute are 2.5 a second: 2.65 m/s, taken as 2.7 */
+    return pairs(&store, 3, minute, 0, 0, 0) || notes(&store, (entered){{minute, 90, 0, 150, 60}, 0, 0, 0, 0}) ||
+           blows(&store, minute, 27, 90);
+}
+
 int main(void)
 {
-    return files() || messages() || humidities() || openings() || entries();
+    return files() || messages() || humidities() || openings() || entries() || halves();
 }

@@ -1,12 +1,16 @@
 -- The laws of the rounding of a message's value, of its size m / c: it is to the nearest, a whole number stays, a half goes to the even
--- neighbour, what is no half rounds as everywhere else, and it is monotone. Only this file looks into `toWhole`. Assumes nothing.
-use mathlib.Core.Path.{_≡_, sym, ap, _∙_}
-use mathlib.Core.Logic.{_⊎_, inl, inr, ⊎-elim}
-use Prim.Native.Nat.{ℕ, _+_, _*_, _/_, _%_, _≤_, _<_}
-use native.Mathlib.Nat.{le-trans, le-of-eq, le-antisymm, div-add-mod', div-eq-of-lt-le, mod-lt, mod-le, add-mul, mul-assoc, mul-comm, mul-left-comm, mul-le-mul-right, le-of-mul-le-mul-right}
+-- neighbour, what is no half rounds as everywhere else; it is IEEE 754's, and so monotone. Only this file looks into `toWhole`. Assumes
+-- nothing.
+use mathlib.Core.Path.{_≡_, refl, sym, ap, _∙_}
+use Prim.Native.Nat.{ℕ, _+_, _*_, _/_, _%_, _≤_, _<_, compare, Ordering, Ordering·lt, Ordering·eq, Ordering·gt}
+use native.Mathlib.Nat.{div-add-mod', div-eq-of-lt-le, mod-lt, mod-le, add-mul, mul-assoc, mul-left-comm, mul-le-mul-right}
 use native.Mathlib.Decide.{decLe}
 use native.Mathlib.Omega.{arith}
-use borrow.Author.Tests.{eq-eqb, ne-eqb}
+use lib.Arith.{lt-of-le-ne}
+use lib.Dec.{isLe, isEq}
+use lib.Ieee as ieee
+use lib.Ieee.Nearest.{closest, closest-mono, closest-same}
+use borrow.Author.Tests.{leb-true, leb-false, eqb-true, eqb-false, eq-eqb, ne-eqb}
 use Rattle.number.specs.Round.{nearest}
 use Rattle.number.proofs.RoundLaws.{nearest-only, nearest-whole}
 use Rattle.message.specs.Value.{evenFrom, toWhole}
@@ -68,23 +72,16 @@ module _ (m c : ℕ) (C : 0 < c) where
       go (yes k) = sym (on-half m c (omega arith) ∙ omega arith)
       go (no k) = sym (over (omega arith))
 
-  either : ((toWhole m c ≡ m / c) × (m % c * 2 ≤ c)) ⊎ ((toWhole m c ≡ m / c + 1) × (c ≤ m % c * 2))
-  either = go (decLe (m % c * 2 + m / c % 2) c)
-    where
-      go : Dec (m % c * 2 + m / c % 2 ≤ c) → ((toWhole m c ≡ m / c) × (m % c * 2 ≤ c)) ⊎ ((toWhole m c ≡ m / c + 1) × (c ≤ m % c * 2))
-      go (yes h) = inl (sym (less h), omega arith)
-      go (no h) = inr (sym (more (omega arith)), omega arith)
-
   -- no whole number is nearer: m / c lies within a half of it, both ends included
   pub whole-nearest : (toWhole m c * (2 * c) ≤ 2 * m + c) × (2 * m + c ≤ (toWhole m c + 1) * (2 * c))
-  whole-nearest =
-      ⊎-elim
-      (λ h. rw (h .0) (omega (arith, h .1, div-add-mod' m c, twice-times (m / c) c), omega (arith, h .1, div-add-mod' m c, next-times (m / c) c)))
-      (λ h. rw (h .0) (
-        omega (arith, h .1, div-add-mod' m c, next-times (m / c) c),
-        omega (arith, h .1, mod-lt m C, div-add-mod' m c, next-times (m / c + 1) c, add-mul (m / c) 1 c),
-      ))
-      either
+  whole-nearest = go (decLe (m % c * 2 + m / c % 2) c)
+    where
+      go : Dec (m % c * 2 + m / c % 2 ≤ c) → (toWhole m c * (2 * c) ≤ 2 * m + c) × (2 * m + c ≤ (toWhole m c + 1) * (2 * c))
+      go (yes h) = rw (sym (less h)) (omega (arith, div-add-mod' m c, twice-times (m / c) c), omega (arith, div-add-mod' m c, next-times (m / c) c))
+      go (no h) = rw (sym (more (omega arith))) (
+        omega (arith, div-add-mod' m c, next-times (m / c) c),
+        omega (arith, mod-lt m C, div-add-mod' m c, next-times (m / c + 1) c, add-mul (m / c) 1 c),
+      )
 
 -- ---- whole numbers and halves
 
@@ -113,36 +110,22 @@ low a c h = off-half a c (λ e. omega (arith, mod-le a c)) ∙ nearest-only a c 
 
 -- ---- order
 
+-- it is the rounding of IEEE 754, to the nearest and ties to even, as the logic of floats has it
+pub as-ieee : (m c : ℕ) → 0 < c → toWhole m c ≡ closest m c
+as-ieee m c C = go (compare (m % c * 2) c) refl
+  where
+    go : (o : Ordering) → compare (m % c * 2) c ≡ o → toWhole m c ≡ ieee.nearest (m / c) o
+    go Ordering·lt e = under m c C (lt-of-le-ne (leb-true (m % c * 2) c (ap isLe e)) (eqb-false (m % c * 2) c (ap isEq e)))
+    go Ordering·eq e = on-half m c (omega (arith, eqb-true (m % c * 2) c (ap isEq e)))
+    go Ordering·gt e = over m c C (leb-false (m % c * 2) c (ap isLe e)) ∙ omega arith
+
 -- a / b ≤ c / d: the larger fraction rounds to no less
 pub monotone : (a b c d : ℕ) → 0 < b → 0 < d → a * d ≤ c * b → toWhole a b ≤ toWhole c d
-monotone a b c d B D h = go (decLe (toWhole a b) (toWhole c d))
-  where
-    -- were it less, both fractions would be the same half
-    clash : toWhole c d + 1 ≤ toWhole a b → ⊥
-    clash l =
-        let q = toWhole c d in
-        let lo : (q + 1) * (2 * b) ≤ 2 * a + b = le-trans (mul-le-mul-right (2 * b) l) (whole-nearest a b B .0) in
-        let hi : 2 * c + d ≤ (q + 1) * (2 * d) = whole-nearest c d D .1 in
-        let cross : (2 * a + b) * d ≤ (2 * c + d) * b = omega (arith, h, add-mul (2 * a) b d, mul-assoc 2 a d, add-mul (2 * c) d b, mul-assoc 2 c b, mul-comm b d) in
-        let turned : (q + 1) * (2 * d) * b ≡ (q + 1) * (2 * b) * d =
-        mul-assoc (q + 1) (2 * d) b ∙ ap (λ (x : ℕ). (q + 1) * x) (omega (arith, mul-assoc 2 d b, mul-assoc 2 b d, mul-comm b d)) ∙ sym (mul-assoc (q + 1) (2 * b) d)
-        in
-        let first : 2 * a + b ≤ (q + 1) * (2 * b) = le-of-mul-le-mul-right {k = d} (le-trans cross (le-trans (mul-le-mul-right b hi) (le-of-eq turned))) D in
-        let second : (q + 1) * (2 * d) ≤ 2 * c + d = le-of-mul-le-mul-right {k = b} (le-trans (le-of-eq turned) (le-trans (mul-le-mul-right d lo) cross)) B in
-        omega (
-          arith,
-          l,
-          half-goes a b q B (omega (arith, lo, first, next-times q b, odd-times q b)),
-          half-goes c d q D (omega (arith, hi, second, next-times q d, odd-times q d)),
-        )
-
-    go : Dec (toWhole a b ≤ toWhole c d) → toWhole a b ≤ toWhole c d
-    go (yes k) = k
-    go (no k) = absurd (clash (omega arith))
+monotone a b c d B D h = omega (arith, as-ieee a b B, as-ieee c d D, closest-mono a b c d B D h)
 
 -- equal fractions round alike
 pub same : (a b c d : ℕ) → 0 < b → 0 < d → a * d ≡ c * b → toWhole a b ≡ toWhole c d
-same a b c d B D e = le-antisymm (monotone a b c d B D (le-of-eq e)) (monotone c d a b D B (le-of-eq (sym e)))
+same a b c d B D e = as-ieee a b B ∙ closest-same a b c d B D e ∙ sym (as-ieee c d D)
 
 -- at least n: at least n
 pub high : (n a c : ℕ) → 0 < c → n * c ≤ a → n ≤ toWhole a c

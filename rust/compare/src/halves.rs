@@ -31,7 +31,11 @@ fn half_degrees() -> impl Iterator<Item = f32> {
 /// The figures that the proved side keeps of a channel's minute: of a temperature the word holds 32768 more.
 fn kept(block: &[u64; raw::WORDS], channel: u8, minute: u32) -> Answer {
     let word = block[cell(channel.into(), minute)];
-    let more = if matches!(channel, 1 | 4 | 5) { 32_768 } else { 0 };
+    let more = if matches!(channel, 1 | 4 | 5) {
+        32_768
+    } else {
+        0
+    };
     Answer::Given([(word & 0xffff) as i32 - more, (word >> 16) as i32, 0, 0, 0])
 }
 

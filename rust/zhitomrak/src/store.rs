@@ -288,6 +288,23 @@ mod tests {
     }
 
     #[test]
+    fn halves_of_a_message_go_to_the_even_tenth_or_degree() {
+        let mut store = opened_store();
+        for (minute, sent, kept) in [(1, 1013.25, 10_132), (2, 1013.75, 10_138)] {
+            assert_eq!(store.hear(&message(0, 0, minute, sent)), Ok(()));
+            assert_eq!(store.hear(&message(1, 0, minute, 0.0)), Ok(()));
+            assert_eq!(store.pressure(minute), Ok(kept));
+        }
+        // -0.5 is 0 and 360.5 is 360, within limits; -1.5 is -2 and 361.5 is 362
+        for (minute, course) in [(1, -0.5), (2, 360.5)] {
+            assert_eq!(store.hear(&motion(minute, course)), Ok(()));
+        }
+        for course in [-1.5, 361.5] {
+            assert_eq!(store.hear(&motion(3, course)), Err(Refused::OutsideLimits));
+        }
+    }
+
+    #[test]
     fn the_wet_bulb_s_state_is_kept_with_it() {
         let mut store = opened_store();
         let mut asked = |minute, state, dry, wet| {
