@@ -1,6 +1,6 @@
 -- The laws of the rounding of a message's value, of its size m / c: it is to the nearest, a whole number stays, a half goes to the even
--- neighbour, what is no half rounds as everywhere else; it is IEEE 754's, and so monotone. Only this file looks into `toWhole`. Assumes
--- nothing.
+-- neighbour, what is no half rounds as everywhere else; it is IEEE 754's, and so monotone. But for worked examples only this file looks
+-- into `toWhole`. Assumes nothing.
 use mathlib.Core.Path.{_≡_, refl, sym, ap, _∙_}
 use Prim.Native.Nat.{ℕ, _+_, _*_, _/_, _%_, _≤_, _<_, compare, Ordering, Ordering·lt, Ordering·eq, Ordering·gt}
 use native.Mathlib.Nat.{div-add-mod', div-eq-of-lt-le, mod-lt, mod-le, add-mul, mul-assoc, mul-left-comm, mul-le-mul-right}
@@ -20,9 +20,6 @@ use Rattle.message.specs.Value.{evenFrom, toWhole}
 odd-times : (q c : ℕ) → (2 * q + 1) * c ≡ 2 * (q * c) + c
 odd-times q c = omega (arith, add-mul (2 * q) 1 c, mul-assoc 2 q c)
 
-twice-times : (q c : ℕ) → q * (2 * c) ≡ 2 * (q * c)
-twice-times q c = mul-left-comm q 2 c
-
 next-times : (q c : ℕ) → (q + 1) * (2 * c) ≡ 2 * (q * c) + 2 * c
 next-times q c = omega (arith, add-mul q 1 (2 * c), mul-left-comm q 2 c)
 
@@ -41,14 +38,14 @@ module _ (m c : ℕ) where
   pub no-half-as-ever : ((q : ℕ) → 2 * m ≡ (2 * q + 1) * c → ⊥) → toWhole m c ≡ nearest m c
   no-half-as-ever none = off-half (λ e. none (m / c) (omega (arith, div-add-mod' m c, odd-times (m / c) c)))
 
--- ---- by twice the remainder, as `nearest` computes it
+-- ---- by twice the remainder, as the code has it
 
 module _ (m c : ℕ) (C : 0 < c) where
   under : m % c * 2 < c → toWhole m c ≡ m / c
   under h =
       off-half m c (λ e. omega arith)
       ∙ nearest-only m c (m / c)
-      (omega (arith, div-add-mod' m c, twice-times (m / c) c))
+      (omega (arith, div-add-mod' m c, mul-left-comm (m / c) 2 c))
       (omega (arith, div-add-mod' m c, next-times (m / c) c))
 
   over : c < m % c * 2 → toWhole m c ≡ m / c + 1
@@ -77,7 +74,7 @@ module _ (m c : ℕ) (C : 0 < c) where
   whole-nearest = go (decLe (m % c * 2 + m / c % 2) c)
     where
       go : Dec (m % c * 2 + m / c % 2 ≤ c) → (toWhole m c * (2 * c) ≤ 2 * m + c) × (2 * m + c ≤ (toWhole m c + 1) * (2 * c))
-      go (yes h) = rw (sym (less h)) (omega (arith, div-add-mod' m c, twice-times (m / c) c), omega (arith, div-add-mod' m c, next-times (m / c) c))
+      go (yes h) = rw (sym (less h)) (omega (arith, div-add-mod' m c, mul-left-comm (m / c) 2 c), omega (arith, div-add-mod' m c, next-times (m / c) c))
       go (no h) = rw (sym (more (omega arith))) (
         omega (arith, div-add-mod' m c, next-times (m / c) c),
         omega (arith, mod-lt m C, div-add-mod' m c, next-times (m / c + 1) c, add-mul (m / c) 1 c),
@@ -95,7 +92,7 @@ whole-stays q c C =
 half-goes : (m c q : ℕ) → 0 < c → 2 * m ≡ (2 * q + 1) * c → toWhole m c ≡ evenFrom q
 half-goes m c q C e =
     let w : m / c ≡ q = div-eq-of-lt-le c (omega (arith, odd-times q c)) (omega (arith, odd-times q c, add-mul q 1 c)) in
-    on-half m c (omega (arith, e, odd-times q c, div-add-mod' m c, ap (λ (x : ℕ). x * c) w)) ∙ ap (λ (x : ℕ). evenFrom x) w
+    on-half m c (omega (arith, e, odd-times q c, div-add-mod' m c, ap (λ (x : ℕ). x * c) w)) ∙ ap evenFrom w
 
 -- so 2k + 1/2 goes to 2k, and 2k + 3/2 to 2k + 2
 pub half-to-even : (k c : ℕ) → 0 < c → (toWhole ((4 * k + 1) * c) (2 * c) ≡ 2 * k) × (toWhole ((4 * k + 3) * c) (2 * c) ≡ 2 * k + 2)

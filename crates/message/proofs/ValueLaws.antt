@@ -5,7 +5,7 @@ use Prim.Native.Nat.{ℕ, _*_, _≤_, _<_, zero-le}
 use native.Mathlib.Nat.{le-of-eq, le-antisymm, le-of-mul-le-mul-right, mul-assoc, mul-le-mul-left, mul-zero, zero-mul}
 use native.Mathlib.Omega.{arith}
 use lib.Dec.{T, ltb, eqb, ltb→lt, eqb→eq, le→leb}
-use lib.IntN.{ℤ, pos, negℤ, negℤ-negℤ}
+use lib.IntN.{pos, negℤ, negℤ-negℤ}
 use lib.Signed.{_≤ℤ_, ≤ℤ-refl}
 use lib.Ieee.{Float, nan, inf, fin, up, down, neg, le, lt, eq}
 use lib.Ieee.Fits.{and-l, and-r, down-pos}
@@ -24,16 +24,13 @@ value-odd n (fin true m e) = sym (negℤ-negℤ (pos (toWhole (n * (m * up e)) (
 
 -- ---- order
 
-either-of : {A : Type 0} (p q : Bool) → (T p → A) → (T q → A) → T (p || q) → A
-either-of true q f g t = f tt
-either-of false q f g t = g t
-
--- what `le` says of two sizes with the same sign: u is that of the signs
-at-most : (a b : ℕ) (u : Bool) → T (ltb a b || (eqb a b && u)) → a ≤ b
-at-most a b u t = either-of (ltb a b) (eqb a b && u) (λ h. omega (arith, ltb→lt a b h)) (λ h. le-of-eq (eqb→eq a b (and-l (eqb a b) u h))) t
-
-at-least : (a b : ℕ) (u : Bool) → T (ltb b a || (eqb a b && u)) → b ≤ a
-at-least a b u t = either-of (ltb b a) (eqb a b && u) (λ h. omega (arith, ltb→lt b a h)) (λ h. le-of-eq (sym (eqb→eq a b (and-l (eqb a b) u h)))) t
+-- what `le` says of the sizes of two values with the same sign, a and b: one is less, or both, in some order x and y, are equal
+at-most : (a b x y : ℕ) (u : Bool) → (x ≡ y → a ≡ b) → T (ltb a b || (eqb x y && u)) → a ≤ b
+at-most a b x y u same t = go (ltb a b) (ltb→lt a b) t
+  where
+    go : (less : Bool) → (T less → a < b) → T (less || (eqb x y && u)) → a ≤ b
+    go true f t = omega (arith, f tt)
+    go false f t = le-of-eq (same (eqb→eq x y (and-l (eqb x y) u t)))
 
 -- n times either of two fractions
 scaled : (n a b c d : ℕ) → 0 < b → 0 < d → a * d ≤ c * b → toWhole (n * a) b ≤ toWhole (n * c) d
@@ -53,7 +50,9 @@ value-monotone n (inf s) y hx hy t = absurd hx
 value-monotone n (fin s m e) nan hx hy t = absurd hy
 value-monotone n (fin s m e) (inf u) hx hy t = absurd hy
 value-monotone n (fin false m e) (fin false k d) hx hy t =
-    record { le = le→leb _ _ (scaled n (m * up e) (down e) (k * up d) (down d) (down-pos e) (down-pos d) (at-most (m * up e * down d) (k * up d * down e) _ t)) }
+    let a = m * up e * down d in
+    let b = k * up d * down e in
+    record { le = le→leb _ _ (scaled n (m * up e) (down e) (k * up d) (down d) (down-pos e) (down-pos d) (at-most a b a b _ (λ q. q) t)) }
 value-monotone n (fin false m e) (fin true k d) hx hy t =
     let a = m * up e * down d in
     let b = k * up d * down e in
@@ -62,4 +61,7 @@ value-monotone n (fin false m e) (fin true k d) hx hy t =
     rw (none n (m * up e) (down d) (down e) (down-pos d) (down-pos e) nought, none n (k * up d) (down e) (down d) (down-pos e) (down-pos d) (sym alike ∙ nought)) (≤ℤ-refl (pos 0))
 value-monotone n (fin true m e) (fin false k d) hx hy t = record { le = minus-le (toWhole (n * (m * up e)) (down e)) (toWhole (n * (k * up d)) (down d)) }
 value-monotone n (fin true m e) (fin true k d) hx hy t =
-    record { le = minus-minus (toWhole (n * (m * up e)) (down e)) (toWhole (n * (k * up d)) (down d)) (scaled n (k * up d) (down d) (m * up e) (down e) (down-pos d) (down-pos e) (at-least (m * up e * down d) (k * up d * down e) _ t)) }
+    let a = m * up e * down d in
+    let b = k * up d * down e in
+    let falls = scaled n (k * up d) (down d) (m * up e) (down e) (down-pos d) (down-pos e) (at-most b a a b _ sym t) in
+    record { le = minus-minus (toWhole (n * (m * up e)) (down e)) (toWhole (n * (k * up d)) (down d)) falls }

@@ -85,25 +85,16 @@ impl Block {
 pub fn compare(tally: &mut Tally) {
     for mm_hg in [false, true] {
         let mut block = Block::open(mm_hg);
-        for channel in [0, 1, 4, 5] {
+        for channel in 0..6 {
             let (low, high) = limits(channel, mm_hg);
+            let seconds: Vec<f32> = match channel {
+                2 | 3 => half_degrees().flat_map(around).collect(),
+                _ => vec![0.0],
+            };
             for first in half_tenths(high.max(-low)).flat_map(around) {
-                block.send(tally, channel, first, 0.0);
-            }
-        }
-        for channel in [2, 3] {
-            let (_, most) = limits(channel, mm_hg);
-            for first in half_tenths(most).flat_map(around) {
-                for second in half_degrees().flat_map(around) {
+                for &second in &seconds {
                     block.send(tally, channel, first, second);
                 }
-            }
-            // Whole and half of each beside the other, so that neither refuses for both.
-            for second in half_degrees().flat_map(around) {
-                block.send(tally, channel, 1.0, second);
-            }
-            for first in half_tenths(most).flat_map(around) {
-                block.send(tally, channel, first, 1.0);
             }
         }
     }
