@@ -1,23 +1,14 @@
 /* What the examples do not show of the C interface. Files are listed into rooms of every length: refused 17 with the bytes needed, every
  * byte as it was, wherever the listing does not fit; else the text, and every byte behind it as it was. Single records are read of good
- * and of broken files. Messages are heard: 8 for the
- * minute of the channel's newest, 19 with the minutes between for an earlier one, and every word of the store as it was. The wet bulb
- * has states 0 to 2, each of its minutes its own, and humidity goes by it. The hand anemometer's certificate keeps its rules or is
- * refused, after what 9 and 10 are for; its entries are noted, or refused by every number that they can get, and every word of the store
- * as it was. Halves of a message's value go to the even tenth or degree, those of an entry's speed away from zero. */
-#include <stddef.h>
+ * and of broken files. Messages are heard: 8 for the minute of the channel's newest, 19 with the minutes between for an earlier one, and
+ * every word of the store as it was. The wet bulb has states 0 to 2, each of its minutes its own, and humidity goes by it. The hand
+ * anemometer's certificate keeps its rules or is refused, after what 9 and 10 are for; its entries are noted, or refused by every number
+ * that they can get, and every word of the store as it was. Halves of a message's value go to the even tenth or degree, those of an
+ * entry's speed away from zero. */
 #include <stdio.h>
 #include <string.h>
 
 #include "zhitomrak.h"
-
-/* The types as the library has them. */
-_Static_assert(sizeof(zhitomrak_store) == 8 * 1609, "a store");
-_Static_assert(sizeof(zhitomrak_anemometer_point) == 8, "a point of the anemometer's");
-_Static_assert(sizeof(zhitomrak_anemometer) == 164 && offsetof(zhitomrak_anemometer, points) == 4, "the anemometer's certificate");
-_Static_assert(sizeof(zhitomrak_settings) == 316 && offsetof(zhitomrak_settings, anemometer) == 152, "settings");
-_Static_assert(sizeof(zhitomrak_entry) == 20 && offsetof(zhitomrak_entry, seconds) == 16, "an entry");
-_Static_assert(sizeof(zhitomrak_noted) == 24 && offsetof(zhitomrak_noted, late) == 16, "what noting came to");
 
 static const char *name;
 
@@ -31,8 +22,8 @@ static int fail(size_t room, const char *what)
 static int lists(const uint8_t *file, size_t length, const char *text)
 {
     size_t needed = strlen(text);
-    for (size_t room = 0; room <= ZHITOMRAK_TEXT; room++) {
-        uint8_t lent[ZHITOMRAK_TEXT], left[ZHITOMRAK_TEXT];
+    for (size_t room = 0; room <= ZHITOMRAK_LISTING_MAX_BYTES; room++) {
+        uint8_t lent[ZHITOMRAK_LISTING_MAX_BYTES], left[ZHITOMRAK_LISTING_MAX_BYTES];
         memset(lent, 0xa5, sizeof lent);
         memset(left, 0xa5, sizeof left);
         if (room >= needed)
@@ -61,8 +52,8 @@ static int stands(const uint8_t *file, size_t length, size_t index, const zhitom
 
 static int singles(const uint8_t *example, size_t length)
 {
-    static const zhitomrak_record tendency = {.kind = 2, .minute = 280, .first = -18, .second = 179};
-    static const zhitomrak_record early = {.kind = 2, .minute = 24, .first = -18, .second = 179};
+    static const zhitomrak_record tendency = {.kind = 2, .minute = 280, .of.tendency = {-18, 179}};
+    static const zhitomrak_record early = {.kind = 2, .minute = 24, .of.tendency = {-18, 179}};
     uint8_t broken[15];
     name = "the example";
     int wrong = stands(example, length, 0, &tendency) || stands(example, length, 1, NULL) || stands(example, length, SIZE_MAX, NULL);
@@ -134,11 +125,8 @@ static const told watch[] = {
 static int hears(zhitomrak_store *store, told t)
 {
     static zhitomrak_store was;
-    uint8_t message[16] = {t.channel, t.state};
-    memcpy(message + 4, &t.minute, 4);
-    memcpy(message + 8, &t.value, 4);
     was = *store;
-    zhitomrak_heard heard = zhitomrak_hear(store, message, sizeof message);
+    zhitomrak_heard heard = zhitomrak_hear_message(store, zhitomrak_message_of(t.channel, t.state, t.minute, t.value, 0));
     int same = memcmp(&was, store, sizeof was) == 0;
     if (heard.number == t.number && heard.late == t.late && same == (t.number != 0))
         return 0;
@@ -152,7 +140,7 @@ static int hears(zhitomrak_store *store, told t)
 static zhitomrak_settings good(void)
 {
     return (zhitomrak_settings){
-        .unit = ZHITOMRAK_HPA,
+        .unit = ZHITOMRAK_UNIT_HPA,
         .psychrometer = 662,
         .count = 2,
         .points = {{8500, 0}, {11000, 0}},
@@ -163,7 +151,8 @@ static zhitomrak_settings good(void)
 
 static int opens(zhitomrak_store *store)
 {
-    if (zhitomrak_open(store, good()) == 0)
+    zhitomrak_settings settings = good();
+    if (zhitomrak_open(store, &settings) == 0)
         return 0;
     printf("interface: good settings are refused\n");
     return 1;
@@ -222,11 +211,11 @@ static int humidities(void)
     for (uint32_t minute = 0; minute < count; minute++) {
         zhitomrak_humidity_answer h = zhitomrak_humidity(&store, minute);
         air a = airs[minute];
-        if (h.refusal.number == a.number && h.e == a.e && h.relative == a.relative)
+        if (h.refusal.number == a.number && h.vapour_pressure == a.e && h.relative_humidity == a.relative)
             continue;
         printf("interface: dry %.1f, state %u, wet %.1f: refused %lu, e %lu, %lu %%; not %lu, %lu, %lu\n", (double)a.dry, a.state,
-               (double)a.wet, (unsigned long)h.refusal.number, (unsigned long)h.e, (unsigned long)h.relative, (unsigned long)a.number,
-               (unsigned long)a.e, (unsigned long)a.relative);
+               (double)a.wet, (unsigned long)h.refusal.number, (unsigned long)h.vapour_pressure,
+               (unsigned long)h.relative_humidity, (unsigned long)a.number, (unsigned long)a.e, (unsigned long)a.relative);
         return 1;
     }
     return 0;
@@ -260,11 +249,11 @@ static int opened_as(const char *what, zhitomrak_settings settings, uint32_t num
     static zhitomrak_store store, was;
     memset(&store, 0xa5, sizeof store);
     was = store;
-    uint32_t told = zhitomrak_open(&store, settings);
+    uint32_t opened = zhitomrak_open(&store, &settings);
     int same = memcmp(&was, &store, sizeof was) == 0;
-    if (told == number && same == (number != 0))
+    if (opened == number && same == (number != 0))
         return 0;
-    printf("interface: an anemometer's certificate, %s: refused %lu, the memory %s; not %lu\n", what, (unsigned long)told,
+    printf("interface: an anemometer's certificate, %s: refused %lu, the memory %s; not %lu\n", what, (unsigned long)opened,
            same ? "as it was" : "changed", (unsigned long)number);
     return 1;
 }
@@ -278,7 +267,7 @@ static int openings(void)
             return 1;
     }
     settings = good();
-    for (int i = 0; i < ZHITOMRAK_ANEMOMETER_POINTS; i++)
+    for (int i = 0; i < ZHITOMRAK_ANEMOMETER_MAX_POINTS; i++)
         settings.anemometer.points[i] = (zhitomrak_anemometer_point){i, 2 * i};
     settings.anemometer.count = 20;
     if (opened_as("20 points", settings, 0))
@@ -336,25 +325,22 @@ static int notes(zhitomrak_store *store, entered e)
 {
     static zhitomrak_store was;
     was = *store;
-    zhitomrak_noted told = zhitomrak_note(store, e.entry);
+    zhitomrak_noted noted = zhitomrak_note(store, e.entry);
     int same = memcmp(&was, store, sizeof was) == 0;
-    if (told.number == e.number && told.channel == e.channel && told.minute == e.minute && told.late == e.late && same == (e.number != 0))
+    if (noted.number == e.number && noted.channel == e.channel && noted.minute == e.minute && noted.late == e.late &&
+        same == (e.number != 0))
         return 0;
     printf("interface: entry %lu %lu %lu %lu %lu: refused %lu, channel %lu, minute %lu, late %llu, the store %s; not %lu\n",
            (unsigned long)e.entry.minute, (unsigned long)e.entry.direction, (unsigned long)e.entry.first, (unsigned long)e.entry.second,
-           (unsigned long)e.entry.seconds, (unsigned long)told.number, (unsigned long)told.channel, (unsigned long)told.minute,
-           (unsigned long long)told.late, same ? "as it was" : "changed", (unsigned long)e.number);
+           (unsigned long)e.entry.seconds, (unsigned long)noted.number, (unsigned long)noted.channel, (unsigned long)noted.minute,
+           (unsigned long long)noted.late, same ? "as it was" : "changed", (unsigned long)e.number);
     return 1;
 }
 
 /* The ship's motion, or the wind from its head. */
 static int pairs(zhitomrak_store *store, uint8_t channel, uint32_t minute, float speed, float direction, uint32_t number)
 {
-    uint8_t message[16] = {channel};
-    memcpy(message + 4, &minute, 4);
-    memcpy(message + 8, &speed, 4);
-    memcpy(message + 12, &direction, 4);
-    if (zhitomrak_hear(store, message, sizeof message).number == number)
+    if (zhitomrak_hear_message(store, zhitomrak_message_of(channel, 0, minute, speed, direction)).number == number)
         return 0;
     printf("interface: channel %u, minute %lu: not %lu\n", channel, (unsigned long)minute, (unsigned long)number);
     return 1;
@@ -390,7 +376,7 @@ static int entries(void)
     /* a ship without a hand anemometer */
     zhitomrak_settings none = good();
     none.anemometer = (zhitomrak_anemometer){0};
-    if (zhitomrak_open(&store, none) != 0 || pairs(&store, 3, 1000, 0.0f, 350.0f, 0))
+    if (zhitomrak_open(&store, &none) != 0 || pairs(&store, 3, 1000, 0.0f, 350.0f, 0))
         return 1;
     return notes(&store, (entered){{1000, 10, 9900, 200, 60}, 24, 0, 0, 0});
 }

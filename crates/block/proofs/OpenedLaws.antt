@@ -37,7 +37,7 @@ opened-long g = length-listed (openedWord g) 0 WORDS
 
 -- the word at a place
 pub word-at : (g : Settings) (k : ℕ) → k < WORDS → getD (opened g) k 0 ≡ openedWord g k
-word-at g k h = getD-listed (openedWord g) 0 WORDS k h ∙ ap (openedWord g) (zero-add k)
+word-at g k h = getD-listed (openedWord g) 0 0 WORDS k h ∙ ap (openedWord g) (zero-add k)
 
 pub opened-is-store : (g : Settings) → isStore (opened g) ≡ true
 unfolding settingWord

@@ -1,5 +1,5 @@
 -- A block of zeros into which the settings are written word by word is the opened one. Assumes nothing.
-use mathlib.Core.Path.{_≡_, refl, sym, ap, _∙_}
+use mathlib.Core.Path.{_≡_, refl, sym, _∙_}
 use mathlib.Core.List.{List}
 use Prim.Native.Nat.{ℕ, zero, suc, _+_, _≤_, _<_}
 use native.Mathlib.Decide.{ℕ-discrete, decLt}
@@ -17,18 +17,18 @@ zeros zero i = refl
 zeros (suc n) zero = refl
 zeros (suc n) (suc i) = zeros n i
 
-module _ (f : ℕ → ℕ) (l : List ℕ) (i : ℕ) where
-  -- one more word is written
-  pub more-written : i < length l → ((k : ℕ) → k < i → getD l k 0 ≡ f k) → (k : ℕ) → k < i + 1 → getD (set l i (f i)) k 0 ≡ f k
+-- one more place is written
+module _ {A : Type 0} (d : A) (f : ℕ → A) (l : List A) (i : ℕ) where
+  pub more-written : i < length l → ((k : ℕ) → k < i → getD l k d ≡ f k) → (k : ℕ) → k < i + 1 → getD (set l i (f i)) k d ≡ f k
   more-written h done k b = go (ℕ-discrete k i)
     where
-      go : Dec (k ≡ i) → getD (set l i (f i)) k 0 ≡ f k
-      go (yes e) = rw e (getD-set-same l i (f i) 0 h)
-      go (no ne) = getD-set-other l i k (f i) 0 ne ∙ done k (omega arith)
+      go : Dec (k ≡ i) → getD (set l i (f i)) k d ≡ f k
+      go (yes e) = rw e (getD-set-same l i (f i) d h)
+      go (no ne) = getD-set-other l i k (f i) d ne ∙ done k (omega arith)
 
-  -- and the words behind it stay
-  pub less-left : (v : ℕ) → ((k : ℕ) → i ≤ k → getD l k 0 ≡ 0) → (k : ℕ) → i + 1 ≤ k → getD (set l i v) k 0 ≡ 0
-  less-left v rest k b = let ne : k ≡ i → ⊥ = λ e. omega arith in getD-set-other l i k v 0 ne ∙ rest k (omega arith)
+-- and the words behind it stay
+pub less-left : (l : List ℕ) (i v : ℕ) → ((k : ℕ) → i ≤ k → getD l k 0 ≡ 0) → (k : ℕ) → i + 1 ≤ k → getD (set l i v) k 0 ≡ 0
+less-left l i v rest k b = let ne : k ≡ i → ⊥ = λ e. omega arith in getD-set-other l i k v 0 ne ∙ rest k (omega arith)
 
 module _ (g : Settings) (l : List ℕ) (long : length l ≡ WORDS) where
   pub all-written : ((k : ℕ) → k < SETTINGS → getD l k 0 ≡ settingWord g k) → ((k : ℕ) → SETTINGS ≤ k → getD l k 0 ≡ 0) → l ≡ opened g

@@ -45,8 +45,8 @@ settingWord s i =
     (cond (eqb i RATES) (s .anemometer .count)
     (upTo (s .anemometer .count) (i - (RATES + 1)) (rateWord (ratePointAt (s .anemometer .points) (i - (RATES + 1))))))))))))
 
--- A list of n words from place i on.
-unfoldable pub listed : (ℕ → ℕ) → ℕ → ℕ → List ℕ
+-- A list of what stands at n places from i on.
+unfoldable pub listed : {A : Type 0} → (ℕ → A) → ℕ → ℕ → List A
 listed f i zero = []
 listed f i (suc n) = f i ∷ listed f (suc i) n
 

@@ -10,7 +10,7 @@ use lib.IntN.{ℤ, pos, negsuc, natAbs, _+ℤ_, _-ℤ_, +ℤ-negℤ-cancel}
 use borrow.Author.Tests.{le-ltb, le-leb, not-false}
 use Rattle.number.specs.Refusal.{given}
 use Rattle.number.specs.Whole.{within}
-use Rattle.number.proofs.Sizes.{never, within-size, natural, and-true}
+use Rattle.number.proofs.Sizes.{size-sub, never, within-size, natural, and-true}
 use Rattle.quantity.specs.Limits.{Limits, inside, pressureLimits, hectopascals, millimetres, wheelhouse, bulb, metresPerSecond, knots, degrees}
 use Rattle.quantity.specs.Convert.{keptDirection}
 use Rattle.quantity.specs.declared.BarometerUnit.{BarometerUnit}
@@ -45,6 +45,10 @@ above (negsuc n) h = rw (le-ltb 32768 (suc n) h)
 pub biased-lt : (z : ℤ) → natAbs z < 32768 → biased z < 65536
 biased-lt (pos n) h = omega arith
 biased-lt (negsuc n) h = rw (le-ltb 32768 (suc n) (omega arith)) (omega arith)
+
+-- any number in 16 bits is small
+pub unbiased-small : (n : ℕ) → natAbs (unbiased n) < 98304
+unbiased-small n = let m : n % 65536 < 65536 = mod-lt n (lit< tt) in omega (arith, size-sub (pos (n % 65536)) (pos 32768))
 
 -- back from the half of a cell
 pub unbiased-back : (z : ℤ) (b : ℕ) → natAbs z < 32768 → unbiased (biased z % 65536 + 65536 * b) ≡ z

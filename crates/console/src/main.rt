@@ -1,7 +1,6 @@
 // The station at a prompt: one command a line from standard input, one answer a line to standard output. Text becomes a command in
 // `command` and an answer text in `answer`, records and messages are `desk`'s; here is what reads, calls and writes.
 ghost use mathlib.Core.Path.{_≡_};
-ghost use Prim.Native.Nat.{min};
 use anemometer::Note;
 use block::Store;
 use command::Command;
@@ -12,12 +11,6 @@ const LINE: usize = 8192;
 
 const BYTES: usize = 4096;
 
-fn smaller(a: usize, b: usize) -> usize
-    ensures { λ r. ⌜ r ≡ min a b ⌝ }
-{
-    if a < b { a } else { b }
-}
-
 // A number of a line, which has 32 bits.
 fn short(n: u64) -> u32 {
     (n % 4294967296) as u32
@@ -25,7 +18,7 @@ fn short(n: u64) -> u32 {
 
 // The first n bytes, or all.
 fn first(bytes: &[u8], n: usize) -> &[u8] {
-    let k = smaller(n, bytes.len());
+    let k = number::smaller(n, bytes.len());
     &bytes[..k]
 }
 
@@ -47,7 +40,7 @@ fn open(store: &mut Store, numbers: &[u64], words: usize, file: &mut [u8], log: 
         return log;
     };
     if log == 0 {
-        if let desk::Placed::Done(size) = desk::empty(file) {
+        if let logbook::Placed::Done(size) = logbook::empty(file) {
             return size;
         }
     }
@@ -109,8 +102,8 @@ fn write(numbers: &[u64], words: usize, room: usize, file: &mut [u8]) {
     let mut text = [0u8; BYTES];
     let records = values::records_of(numbers, words);
     let count = if words > 0 { words - 1 } else { 0 };
-    let most = smaller(room, file.len());
-    let r = desk::write(&mut file[..most], records, count);
+    let most = number::smaller(room, file.len());
+    let r = logbook::write(&mut file[..most], records, count);
     let n = match r {
         writer::Written::Done(size) => answer::put_written(&mut text, 0, r, first(file, size)),
         _ => answer::put_written(&mut text, 0, r, b""),
@@ -150,7 +143,7 @@ fn log_answer(store: &Store, kind: u32, m: u32, file: &mut [u8], log: usize) -> 
         ask(store, kind, m);
         return log;
     };
-    let desk::Placed::Done(longer) = desk::place(file, log, r) else {
+    let logbook::Placed::Done(longer) = logbook::place(file, log, r) else {
         say(b"the log is full: 48 records; save it, and start the console anew\n");
         return log;
     };

@@ -17,7 +17,7 @@ use Rattle.store.specs.declared.Hearing.{Hearing}
 use Rattle.store.proofs.OpenLaws.{opens}
 use Rattle.station.specs.Source.{heard}
 use Rattle.station.specs.Questions.{Asked, pressure, tendency, wind, humidity, Reply, Tells, TellsOf}
-use Rattle.heard.specs.Feeds.{SameSettings}
+use Rattle.settings.specs.Settings.{SameSettings}
 use Rattle.heard.proofs.StoreLaws.{by-messages}
 use Rattle.heard.proofs.SettingsAlike.{same-store}
 use Rattle.demands.specs.Working.{Opens, Hears, Notes, Asks, Working, Replies}

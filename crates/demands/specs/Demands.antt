@@ -26,7 +26,8 @@ use Rattle.wind.specs.declared.TrueWind.the-variants.{Blows, OutsideLimits}
 use Rattle.vapour.specs.Vapour.{Tables, AreTables}
 use Rattle.station.specs.Source.{heard, inKnots}
 use Rattle.station.specs.Questions.{Asked, pressure, tendency, wind, humidity, question, Reply, isIn, reads, Tells}
-use Rattle.heard.specs.Feeds.{SameSettings, fedTo, messagesOf, Replaced, messageTests, testsOfEntry}
+use Rattle.settings.specs.Settings.{SameSettings}
+use Rattle.heard.specs.Feeds.{fedTo, messagesOf, Replaced, messageTests, testsOfEntry}
 use Rattle.octets.specs.Bytes.{AreBytes}
 use Rattle.watchfile.specs.Format.{DewRule, blank, figuresOf, reading, fileTests, writeTests, recordRight}
 use Rattle.watchfile.specs.declared.Record.{Record}

@@ -1,5 +1,3 @@
 pub mod Records
 pub mod Entries
-pub mod Placing
 pub mod Counting
-pub mod Places

@@ -2,15 +2,17 @@
 use mathlib.Core.Path.{_≡_, refl, sym, ap, _∙_}
 use mathlib.Core.Bool.{true}
 use mathlib.Core.List.{List, [], _∷_}
-use Prim.Native.Nat.{ℕ, zero, suc, _+_, _-_, _*_, _%_, _≤_, _<_}
+use Prim.Native.Nat.{ℕ, zero, suc, _+_, _-_, _*_, _≤_, _<_}
 use native.Mathlib.Omega.{arith}
 use native.Mathlib.Nat.{not-suc-le-zero}
-use lib.IntN.{ℤ, pos, negsuc, natAbs, subℕ}
+use lib.IntN.{ℤ, pos, negsuc, natAbs}
 use lib.ListN.{length, getD, take, drop, length-drop}
 use lib.Seq.{take-all, getD-drop, getD-take}
 use mir.Syntax.{w32}
 use mir.Val.{SFits}
-use borrow.Author.Tests.{lt-ltb, le-ltb, le-leb}
+use borrow.Author.Tests.{lt-ltb, le-leb}
+use Rattle.octets.specs.Bytes.{signed32, wordOf}
+use Rattle.octets.proofs.WordLaws.{word-back, word-whole}
 use Rattle.watchfile.specs.Format.{blank, figures, figuresOf}
 use Rattle.number.specs.declared.Kept.{Kept}
 use Rattle.watchfile.specs.declared.Body.{Body}
@@ -18,7 +20,7 @@ use Rattle.watchfile.specs.declared.Body.the-variants.{Pressure, Tendency, Wind
 use Rattle.watchfile.specs.declared.Record.{Record}
 use Rattle.watchfile.proofs.SmallLaws.{Small}
 use Rattle.handed.specs.Handed.{half, octet, recordOf}
-use Rattle.handed.specs.Words.{signed32, wordOf, wordsOf, AreWords, figuresIn, held, recordAt, recordsFrom, recordsIn}
+use Rattle.handed.specs.Words.{wordsOf, AreWords, figuresIn, held, recordAt, recordsFrom, recordsIn}
 
 length-from : (w : List ℕ) (i n : ℕ) → length (recordsFrom w i n) ≡ n
 unfolding recordsFrom
@@ -48,33 +50,6 @@ part-all w at = take-all (length w - at) (drop at w) (omega (arith, length-drop 
 
 pub length-part : (w : List ℕ) (at : ℕ) → length (part w at) ≡ length w - at
 length-part w at = ap length (part-all w at) ∙ length-drop at w
-
--- ---- a word from 2147483648 up, less 4294967296, fits 32 bits
-
-pub word-fits : (w : ℕ) → 2147483648 ≤ w → w < 4294967296 → SFits w32 (subℕ w 4294967296)
-word-fits w l h = rw (lt-ltb w 4294967296 h) (record { sfits = omega arith })
-
--- ---- a number with a sign there and back
-
-negative : (n m : ℕ) → n + suc m ≡ 4294967296 → 2147483648 ≤ n → signed32 n ≡ negsuc m
-negative n m e h =
-    let z : 4294967296 - suc n ≡ m = omega arith in
-    rw (le-ltb n 2147483648 h, lt-ltb n 4294967296 (omega arith), z)
-
-pub word-back : (z : ℤ) → SFits w32 z → signed32 (wordOf z) ≡ z
-word-back (pos m) f =
-    let h : m < 2147483648 = f .sfits in
-    let e : (m + 4294967296) % 4294967296 ≡ m = omega arith in
-    rw (e, lt-ltb m 2147483648 h)
-word-back (negsuc m) f =
-    let h : m < 2147483648 = f .sfits in
-    let g : (4294967296 - suc m) % 4294967296 ≡ 4294967295 - m = omega arith in
-    let e : wordOf (negsuc m) ≡ 4294967295 - m = rw (le-ltb 4294967296 (suc m) (omega arith)) g in
-    ap signed32 e ∙ negative (4294967295 - m) m (omega arith) (omega arith)
-
--- and one without
-pub word-whole : (n : ℕ) → n < 2147483648 → (wordOf (pos n) ≡ n) × (signed32 n ≡ pos n)
-word-whole n h = (omega arith, rw (lt-ltb n 2147483648 h))
 
 -- ---- bodies there and back: what fits its bytes
 

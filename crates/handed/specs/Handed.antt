@@ -16,7 +16,8 @@ half z = within (pos 0) (pos 65535) z
 abbrev pub octet : ℤ → Bool
 octet z = within (pos 0) (pos 255) z
 
--- What stands for a body that does not fit its bytes, or is of no kind: a pressure that breaks the rules.
+-- What stands for a body that does not fit its bytes: one of its kind that breaks the rules. For one of no kind it is a pressure that
+-- does.
 abbrev pub misfit : Body
 misfit = Pressure 0
 
@@ -24,16 +25,16 @@ abbrev pub pressureBody : ℤ → Body
 pressureBody p = cond (half p) (Pressure (natAbs p)) misfit
 
 abbrev pub tendencyBody : Kept → ℤ → Body
-tendencyBody change absent = cond (octet absent) (Tendency change (natAbs absent)) misfit
+tendencyBody change absent = cond (octet absent) (Tendency change (natAbs absent)) (Tendency change 255)
 
 abbrev pub windBody : ℤ → ℤ → Body
-windBody speed direction = cond (half speed && half direction) (Wind (natAbs speed) (natAbs direction)) misfit
+windBody speed direction = cond (half speed && half direction) (Wind (natAbs speed) (natAbs direction)) (Wind 0 1)
 
 abbrev pub humidityBody : ℤ → ℤ → ℤ → ℤ → Kept → Body
 humidityBody e saturation deficit relative dew =
     cond (half e && half saturation && half deficit && octet relative)
     (Humidity (natAbs e) (natAbs saturation) (natAbs deficit) (natAbs relative) dew)
-    misfit
+    (Humidity 0 0 0 0 dew)
 
 abbrev pub bodyOf : Figures → Body
 bodyOf r =

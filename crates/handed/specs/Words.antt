@@ -2,23 +2,15 @@
 use mathlib.Core.Path.{_≡_}
 use mathlib.Core.Bool.{cond}
 use mathlib.Core.List.{List, [], _∷_}
-use Prim.Native.Nat.{ℕ, zero, suc, _*_, _/_, _%_}
+use Prim.Native.Nat.{ℕ, zero, suc, _*_, _/_}
 use lib.Dec.{ltb}
-use lib.IntN.{ℤ, pos, natAbs, _+ℤ_, _-ℤ_}
 use lib.ListN.{length, getD, drop}
+use Rattle.octets.specs.Bytes.{signed32, wordOf}
 use Rattle.watchfile.specs.Format.{blank, figures, bodyFigures}
 use Rattle.watchfile.specs.declared.Body.{Body}
 use Rattle.watchfile.specs.declared.Figures.{Figures}
 use Rattle.watchfile.specs.declared.Record.{Record}
 use Rattle.handed.specs.Handed.{recordOf}
-
--- The number with a sign that a word holds.
-abbrev pub signed32 : ℕ → ℤ
-signed32 w = cond (ltb w 2147483648) (pos w) (pos w -ℤ pos 4294967296)
-
--- And the word of a number.
-abbrev pub wordOf : ℤ → ℕ
-wordOf z = natAbs (z +ℤ pos 4294967296) % 4294967296
 
 -- The figures at the start of words.
 abbrev pub figuresIn : List ℕ → Figures

@@ -6,7 +6,7 @@ ghost use Prim.Native.Nat.{_≤_};
 ghost use lib.IntN.{natAbs};
 ghost use lib.ListN.{length};
 ghost use Rattle.handed.specs.Handed.{half, octet, pressureBody, tendencyBody, windBody, humidityBody, bodyOf, recordOf};
-ghost use Rattle.handed.specs.Words.{signed32, wordOf, AreWords, figuresIn, recordAt, recordsIn};
+ghost use Rattle.handed.specs.Words.{AreWords, figuresIn, recordAt, recordsIn};
 use number::Kept;
 use number::Number;
 use watchfile::BLANK;
@@ -47,7 +47,7 @@ fn octet_of(n: Kept) -> u8
     n.number().size() as u8
 }
 
-// The bodies that a record's figures make, or one that no file may hold, where they do not fit it.
+// The bodies that a record's figures make, or one of its kind that no file may hold, where they do not fit it.
 fn pressure_body(first: Kept) -> Body
     ensures { λ r. ⌜ r ≡ pressureBody (first .v) ⌝ }
 {
@@ -66,7 +66,10 @@ fn tendency_body(first: Kept, second: Kept) -> Body
             absent: octet_of(second),
         };
     }
-    Body::Pressure(0)
+    Body::Tendency {
+        change: first,
+        absent: 255,
+    }
 }
 
 fn wind_body(first: Kept, second: Kept) -> Body
@@ -80,23 +83,50 @@ fn wind_body(first: Kept, second: Kept) -> Body
             };
         }
     }
-    Body::Pressure(0)
+    Body::Wind {
+        speed: 0,
+        direction: 1,
+    }
 }
 
 fn humidity_body(first: Kept, second: Kept, third: Kept, fourth: Kept, fifth: Kept) -> Body
     ensures { λ r. ⌜ r ≡ humidityBody (first .v) (second .v) (third .v) (fourth .v) fifth ⌝ }
 {
     if !is_half(first) {
-        return Body::Pressure(0);
+        return Body::Humidity {
+            e: 0,
+            saturation: 0,
+            deficit: 0,
+            relative: 0,
+            dew: fifth,
+        };
     }
     if !is_half(second) {
-        return Body::Pressure(0);
+        return Body::Humidity {
+            e: 0,
+            saturation: 0,
+            deficit: 0,
+            relative: 0,
+            dew: fifth,
+        };
     }
     if !is_half(third) {
-        return Body::Pressure(0);
+        return Body::Humidity {
+            e: 0,
+            saturation: 0,
+            deficit: 0,
+            relative: 0,
+            dew: fifth,
+        };
     }
     if !is_octet(fourth) {
-        return Body::Pressure(0);
+        return Body::Humidity {
+            e: 0,
+            saturation: 0,
+            deficit: 0,
+            relative: 0,
+            dew: fifth,
+        };
     }
     Body::Humidity {
         e: half_of(first),
@@ -144,19 +174,6 @@ pub fn record_of(r: Figures) -> Record
 
 // ---- words
 
-// The number with a sign that a word holds.
-fn figure_in(word: u32) -> Kept
-    ensures { λ r. ⌜ r .v ≡ signed32 word ⌝ }
-{
-    let whole = Number::whole(word);
-    if word < 2147483648 {
-        return whole.keep();
-    }
-    let less = whole.minus(Number { v: 4294967296 });
-    let narrow = less.v as i32;
-    Kept { v: narrow }
-}
-
 // The figures at the start of words.
 fn figures_in(row: &[u32]) -> Figures
     requires { ⌜ 7 ≤ length (now row) ⌝ }
@@ -165,25 +182,15 @@ fn figures_in(row: &[u32]) -> Figures
     Figures {
         kind: row[0],
         minute: row[1],
-        first: figure_in(row[2]),
-        second: figure_in(row[3]),
-        third: figure_in(row[4]),
-        fourth: figure_in(row[5]),
-        fifth: figure_in(row[6]),
+        first: octets::signed_word(row[2]),
+        second: octets::signed_word(row[3]),
+        third: octets::signed_word(row[4]),
+        fourth: octets::signed_word(row[5]),
+        fifth: octets::signed_word(row[6]),
     }
 }
 
 // ---- a record as words
-
-// The word that holds a number with a sign.
-fn word_of(figure: Kept) -> u32
-    ensures { λ r. ⌜ (r ≡ wordOf (figure .v)) × (signed32 r ≡ figure .v) ⌝ }
-{
-    let wide = figure.v as i64;
-    let n = Number { v: wide };
-    let size = n.plus(Number { v: 4294967296 }).size();
-    (size % 4294967296) as u32
-}
 
 fn pressure_words(minute: u32, pressure: u16) -> [u32; WORDS]
     ensures { λ w. ⌜ AreWords (Body.Pressure pressure) minute w ⌝ }
@@ -194,7 +201,7 @@ fn pressure_words(minute: u32, pressure: u16) -> [u32; WORDS]
 fn tendency_words(minute: u32, change: Kept, absent: u8) -> [u32; WORDS]
     ensures { λ w. ⌜ AreWords (Body.Tendency change absent) minute w ⌝ }
 {
-    let first = word_of(change);
+    let first = octets::word_of(change);
     [2, minute, first, absent as u32, 0, 0, 0]
 }
 
@@ -214,7 +221,7 @@ fn humidity_words(
 ) -> [u32; WORDS]
     ensures { λ w. ⌜ AreWords (Body.Humidity e saturation deficit relative dew) minute w ⌝ }
 {
-    let fifth = word_of(dew);
+    let fifth = octets::word_of(dew);
     [
         4,
         minute,

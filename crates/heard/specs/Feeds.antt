@@ -4,7 +4,7 @@ use mathlib.Core.Path.{_≡_}
 use mathlib.Core.Bool.{Bool, true, false, _||_, cond}
 use mathlib.Core.List.{List, [], _∷_, _++_}
 use mathlib.Core.Logic.{_⊎_}
-use Prim.Native.Nat.{ℕ, _<_}
+use Prim.Native.Nat.{ℕ}
 use lib.Dec.{ltb}
 use lib.IntN.{pos}
 use Rattle.number.specs.Refusal.{Numbered, Test, plain, given}
@@ -13,7 +13,6 @@ use Rattle.quantity.specs.declared.BarometerUnit.{BarometerUnit}
 use Rattle.wire.specs.Bytes.{minute}
 use Rattle.wire.specs.Decode.{message}
 use Rattle.message.specs.Receive.{Entry, entry, received, tests}
-use Rattle.settings.specs.Settings.{pointAt, ratePointAt}
 use Rattle.settings.specs.declared.Settings.{Settings}
 use Rattle.block.specs.Layout.{WORDS}
 use Rattle.block.specs.Words.{listed}
@@ -23,20 +22,6 @@ use Rattle.store.specs.Block.{newestTests, windChannel, courseChannel}
 use Rattle.store.specs.Noting.{windEntry}
 use Rattle.store.specs.History.{Sent, bytes, note, nextOf, remembered, entryTests, history, belongs}
 use Rattle.station.specs.Questions.{Asked, question}
-
--- ---- "the same settings"
-
--- A certificate is its points: what stands behind their count is none of it.
-pub record SameSettings (g h : Settings) : Type 0 where
-  pub unit : g .unit ≡ h .unit
-  pub height : g .height .0 .v ≡ h .height .0 .v
-  pub difference : g .difference .0 .v ≡ h .difference .0 .v
-  pub coefficient : g .coefficient .0 .v ≡ h .coefficient .0 .v
-  pub psychrometer : g .psychrometer .0 .v ≡ h .psychrometer .0 .v
-  pub count : g .count ≡ h .count
-  pub point : (i : ℕ) → i < g .count → pointAt (g .points) i ≡ pointAt (h .points) i
-  pub rates : g .anemometer .count ≡ h .anemometer .count
-  pub rate : (i : ℕ) → i < g .anemometer .count → ratePointAt (g .anemometer .points) i ≡ ratePointAt (h .anemometer .points) i
 
 -- ---- "the messages of the channels that feed an answer"
 

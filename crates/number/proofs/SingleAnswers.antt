@@ -18,6 +18,7 @@ use Rattle.number.proofs.Number.over.Reads as over
 use Rattle.number.proofs.Number.at_most.Reads as at-most
 use Rattle.number.proofs.Number.within.Reads as within
 use Rattle.number.proofs.power.Reads as power
+use Rattle.number.proofs.smaller.Reads as smaller
 
 pub number-by : {x y : Number} → x .v ≡ y .v → x ≡ y
 number-by e = ap make e
@@ -69,3 +70,6 @@ single-within κs a r r′ s s′ p q = p ∙ sym q
 
 pub single-power : Single power.Post
 single-power κs a r r′ s s′ p q = p ∙ sym q
+
+pub single-smaller : Single smaller.Post
+single-smaller κs a r r′ s s′ p q = p ∙ sym q

@@ -1,7 +1,7 @@
 // Whole numbers with a sign, and the rounding rule. (Only a message's value goes another way, on an exact half: crate `message`.)
 // A signed number stands in a struct, so that a contract speaks of the number and not of its bits.
 ghost use mathlib.Core.Path.{_≡_};
-ghost use Prim.Native.Nat.{ℕ, _+_, _*_, _<_, _^_};
+ghost use Prim.Native.Nat.{ℕ, _+_, _*_, _<_, _^_, min};
 ghost use lib.IntN.{ℤ, pos, natAbs, _+ℤ_, _-ℤ_, _*ℤ_};
 ghost use lib.Signed.{ltZ, leZ};
 ghost use Rattle.number.specs.Round.{rounded};
@@ -136,4 +136,11 @@ pub fn power(k: u64) -> u64
     ensures { λ r. ⌜ r ≡ 2 ^ k ⌝ }
 {
     1u64 << k
+}
+
+// The smaller of two lengths.
+pub fn smaller(a: usize, b: usize) -> usize
+    ensures { λ r. ⌜ r ≡ min a b ⌝ }
+{
+    if a < b { a } else { b }
 }

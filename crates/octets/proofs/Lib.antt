@@ -1,3 +1,4 @@
 pub mod ByteLaws
 pub mod LentLaws
+pub mod WordLaws
 pub mod SingleAnswers

@@ -9,6 +9,8 @@ use Rattle.octets.proofs.in_two.Reads as in-two
 use Rattle.octets.proofs.in_four.Reads as in-four
 use Rattle.octets.proofs.signed.Reads as signed
 use Rattle.octets.proofs.unsigned.Reads as unsigned
+use Rattle.octets.proofs.signed_word.Reads as signed-word
+use Rattle.octets.proofs.word_of.Reads as word-of
 
 pub single-two : Single two.Post
 single-two κs a r r′ s s′ p q = p ∙ sym q
@@ -30,3 +32,9 @@ single-signed κs a r r′ s s′ p q = ap kept (p ∙ sym q)
 
 pub single-unsigned : Single unsigned.Post
 single-unsigned κs a r r′ s s′ p q = p ∙ sym q
+
+pub single-signed-word : Single signed-word.Post
+single-signed-word κs a r r′ s s′ p q = ap kept (p ∙ sym q)
+
+pub single-word-of : Single word-of.Post
+single-word-of κs a r r′ s s′ p q = p .0 ∙ sym (q .0)

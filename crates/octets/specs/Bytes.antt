@@ -30,3 +30,10 @@ signed16 n = cond (ltb n 32768) (pos n) (pos n -ℤ pos 65536)
 
 abbrev pub unsigned16 : ℤ → ℕ
 unsigned16 z = natAbs (z +ℤ pos 65536) % 65536
+
+-- And in a word of 32 bits.
+abbrev pub signed32 : ℕ → ℤ
+signed32 w = cond (ltb w 2147483648) (pos w) (pos w -ℤ pos 4294967296)
+
+abbrev pub wordOf : ℤ → ℕ
+wordOf z = natAbs (z +ℤ pos 4294967296) % 4294967296

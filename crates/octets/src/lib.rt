@@ -1,7 +1,8 @@
-// Numbers as bytes, little endian: the number that bytes hold, the bytes of a number, and signed numbers in two bytes.
+// Numbers as bytes, little endian: the number that bytes hold, the bytes of a number, and signed numbers in two bytes
+// and in a word.
 ghost use mathlib.Core.Path.{_≡_};
 ghost use mathlib.Core.List.{[], _∷_};
-ghost use Rattle.octets.specs.Bytes.{le16, le32, bytes16, bytes32, signed16, unsigned16};
+ghost use Rattle.octets.specs.Bytes.{le16, le32, bytes16, bytes32, signed16, unsigned16, signed32, wordOf};
 use number::Kept;
 use number::Number;
 
@@ -56,4 +57,27 @@ pub fn unsigned(n: Kept) -> u16
     let turn = Number { v: 65536 };
     let size = n.number().plus(turn).size();
     (size % 65536) as u16
+}
+
+// The signed number that a word of 32 bits holds.
+pub fn signed_word(word: u32) -> Kept
+    ensures { λ r. ⌜ r .v ≡ signed32 word ⌝ }
+{
+    let whole = Number::whole(word);
+    if word < 2147483648 {
+        return whole.keep();
+    }
+    let less = whole.minus(Number { v: 4294967296 });
+    let narrow = less.v as i32;
+    Kept { v: narrow }
+}
+
+// The word that holds a signed number, from which it comes back.
+pub fn word_of(n: Kept) -> u32
+    ensures { λ r. ⌜ (r ≡ wordOf (n .v)) × (signed32 r ≡ n .v) ⌝ }
+{
+    let wide = n.v as i64;
+    let whole = Number { v: wide };
+    let size = whole.plus(Number { v: 4294967296 }).size();
+    (size % 4294967296) as u32
 }

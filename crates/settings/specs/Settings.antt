@@ -1,7 +1,8 @@
 -- The limits of the settings (document 01, "Settings"; document 02, W5), and refusals 9, 10 and 25.
+use mathlib.Core.Path.{_≡_}
 use mathlib.Core.Bool.{Bool, true, not, _&&_, _||_}
 use mathlib.Core.List.{List, [], _∷_}
-use Prim.Native.Nat.{ℕ, zero, suc, _+_, _-_}
+use Prim.Native.Nat.{ℕ, zero, suc, _+_, _-_, _<_}
 use lib.Dec.{eqb, leb}
 use lib.IntN.{ℤ, pos, negℤ}
 use lib.ListN.{getD}
@@ -113,3 +114,17 @@ checkedAs Good = given tt
 checkedAs OutsideLimits = refused 9
 checkedAs CertificateBroken = refused 10
 checkedAs AnemometerBroken = refused 25
+
+-- ---- "the same settings"
+
+-- A certificate is its points: what stands behind their count is none of it.
+pub record SameSettings (g h : Settings) : Type 0 where
+  pub unit : g .unit ≡ h .unit
+  pub height : g .height .0 .v ≡ h .height .0 .v
+  pub difference : g .difference .0 .v ≡ h .difference .0 .v
+  pub coefficient : g .coefficient .0 .v ≡ h .coefficient .0 .v
+  pub psychrometer : g .psychrometer .0 .v ≡ h .psychrometer .0 .v
+  pub count : g .count ≡ h .count
+  pub point : (i : ℕ) → i < g .count → pointAt (g .points) i ≡ pointAt (h .points) i
+  pub rates : g .anemometer .count ≡ h .anemometer .count
+  pub rate : (i : ℕ) → i < g .anemometer .count → ratePointAt (g .anemometer .points) i ≡ ratePointAt (h .anemometer .points) i

@@ -15,6 +15,7 @@ use Rattle.number.proofs.Number.over.Reads as number-Number-over
 use Rattle.number.proofs.Number.at_most.Reads as number-Number-at-most
 use Rattle.number.proofs.Number.within.Reads as number-Number-within
 use Rattle.number.proofs.power.Reads as number-power
+use Rattle.number.proofs.smaller.Reads as number-smaller
 use Rattle.quantity.proofs.SingleAnswers as quantity
 use Rattle.quantity.proofs.BarometerUnit.holds.Reads as quantity-BarometerUnit-holds
 use Rattle.quantity.proofs.Hectopascals.holds.Reads as quantity-Hectopascals-holds
@@ -44,6 +45,8 @@ use Rattle.octets.proofs.in_two.Reads as octets-in-two
 use Rattle.octets.proofs.in_four.Reads as octets-in-four
 use Rattle.octets.proofs.signed.Reads as octets-signed
 use Rattle.octets.proofs.unsigned.Reads as octets-unsigned
+use Rattle.octets.proofs.signed_word.Reads as octets-signed-word
+use Rattle.octets.proofs.word_of.Reads as octets-word-of
 use Rattle.wire.proofs.SingleAnswers as wire
 use Rattle.wire.proofs.decode.Reads as wire-decode
 use Rattle.wire.proofs.number.Reads as wire-number
@@ -92,6 +95,7 @@ use Rattle.store.proofs.«open».Reads as store-open
 use Rattle.store.proofs.hear.Reads as store-hear
 use Rattle.store.proofs.note.Reads as store-note
 use Rattle.store.proofs.recall.Reads as store-recall
+use Rattle.store.proofs.next.Reads as store-next
 use Rattle.store.proofs.missing_minutes.Reads as store-missing-minutes
 use Rattle.store.proofs.number.Reads as store-number
 use Rattle.pressure.proofs.SingleAnswers as pressure
@@ -164,14 +168,16 @@ use Rattle.text.proofs.put_signed.Reads as text-put-signed
 use Rattle.listing.proofs.SingleAnswers as listing
 use Rattle.listing.proofs.list.Reads as listing-list
 use Rattle.desk.proofs.SingleAnswers as desk
+use Rattle.logbook.proofs.SingleAnswers as logbook
 use Rattle.desk.proofs.hear_all.Reads as desk-hear-all
 use Rattle.desk.proofs.pressure_record.Reads as desk-pressure-record
 use Rattle.desk.proofs.tendency_record.Reads as desk-tendency-record
 use Rattle.desk.proofs.wind_record.Reads as desk-wind-record
 use Rattle.desk.proofs.humidity_record.Reads as desk-humidity-record
-use Rattle.desk.proofs.place.Reads as desk-place
-use Rattle.desk.proofs.empty.Reads as desk-empty
-use Rattle.desk.proofs.write.Reads as desk-write
+use Rattle.logbook.proofs.place.Reads as logbook-place
+use Rattle.logbook.proofs.empty.Reads as logbook-empty
+use Rattle.logbook.proofs.write.Reads as logbook-write
+use Rattle.logbook.proofs.take_out.Reads as logbook-take-out
 use Rattle.answer.proofs.SingleAnswers as answer
 use Rattle.answer.proofs.put_line.Reads as answer-put-line
 use Rattle.answer.proofs.put_opening.Reads as answer-put-opening
@@ -202,18 +208,50 @@ use Rattle.notice.proofs.put_help.Reads as notice-put-help
 use Rattle.notice.proofs.put_fault.Reads as notice-put-fault
 use Rattle.notice.proofs.put_counts.Reads as notice-put-counts
 use Rattle.told.proofs.SingleAnswers as told
-use Rattle.told.proofs.settings_of.Reads as told-settings-of
 use Rattle.told.proofs.hearing_told.Reads as told-hearing-told
 use Rattle.told.proofs.noting_told.Reads as told-noting-told
 use Rattle.told.proofs.pressure_told.Reads as told-pressure-told
 use Rattle.told.proofs.tendency_told.Reads as told-tendency-told
 use Rattle.told.proofs.wind_told.Reads as told-wind-told
 use Rattle.told.proofs.humidity_told.Reads as told-humidity-told
+use Rattle.sheet.proofs.SingleAnswers as sheet
+use Rattle.sheet.proofs.settings_in.Reads as sheet-settings-in
+use Rattle.sheet.proofs.read.Reads as sheet-read
+use Rattle.spoken.proofs.SingleAnswers as spoken
+use Rattle.spoken.proofs.put_pressure.Reads as spoken-put-pressure
+use Rattle.spoken.proofs.put_tendency.Reads as spoken-put-tendency
+use Rattle.spoken.proofs.put_wind.Reads as spoken-put-wind
+use Rattle.spoken.proofs.put_humidity.Reads as spoken-put-humidity
+use Rattle.spoken.proofs.put_reading.Reads as spoken-put-reading
+use Rattle.spoken.proofs.put_refusal.Reads as spoken-put-refusal
+use Rattle.kept.proofs.SingleAnswers as kept
+use Rattle.kept.proofs.newest.Reads as kept-newest
+use Rattle.kept.proofs.reading.Reads as kept-reading
+use Rattle.kept.proofs.stretch.Reads as kept-stretch
+use Rattle.entered.proofs.SingleAnswers as entered
+use Rattle.entered.proofs.record.Reads as entered-record
 use Rattle.filed.proofs.SingleAnswers as filed
 use Rattle.filed.proofs.file_told.Reads as filed-file-told
 use Rattle.filed.proofs.write_told.Reads as filed-write-told
+use Rattle.filed.proofs.place_told.Reads as filed-place-told
 use Rattle.filed.proofs.listed_told.Reads as filed-listed-told
 use Rattle.zhitomrak.proofs.SingleAnswers as zhitomrak
+use Rattle.zhitomrak.proofs.zhitomrak_version.Reads as zhitomrak-zhitomrak-version
+use Rattle.bridge.proofs.SingleAnswers as bridge
+use Rattle.bridge.proofs.zhitomrak_settings_of.Reads as bridge-zhitomrak-settings-of
+use Rattle.bridge.proofs.zhitomrak_hear_all.Reads as bridge-zhitomrak-hear-all
+use Rattle.bridge.proofs.zhitomrak_newest.Reads as bridge-zhitomrak-newest
+use Rattle.bridge.proofs.zhitomrak_reading.Reads as bridge-zhitomrak-reading
+use Rattle.bridge.proofs.zhitomrak_stretch.Reads as bridge-zhitomrak-stretch
+use Rattle.bridge.proofs.zhitomrak_record_of.Reads as bridge-zhitomrak-record-of
+use Rattle.bridge.proofs.zhitomrak_place.Reads as bridge-zhitomrak-place
+use Rattle.bridge.proofs.zhitomrak_take_out.Reads as bridge-zhitomrak-take-out
+use Rattle.bridge.proofs.zhitomrak_say_refusal.Reads as bridge-zhitomrak-say-refusal
+use Rattle.bridge.proofs.zhitomrak_say_pressure.Reads as bridge-zhitomrak-say-pressure
+use Rattle.bridge.proofs.zhitomrak_say_tendency.Reads as bridge-zhitomrak-say-tendency
+use Rattle.bridge.proofs.zhitomrak_say_wind.Reads as bridge-zhitomrak-say-wind
+use Rattle.bridge.proofs.zhitomrak_say_humidity.Reads as bridge-zhitomrak-say-humidity
+use Rattle.bridge.proofs.zhitomrak_say_reading.Reads as bridge-zhitomrak-say-reading
 use Rattle.zhitomrak.proofs.zhitomrak_open.Reads as zhitomrak-zhitomrak-open
 use Rattle.zhitomrak.proofs.zhitomrak_hear.Reads as zhitomrak-zhitomrak-hear
 use Rattle.zhitomrak.proofs.zhitomrak_note.Reads as zhitomrak-zhitomrak-note
@@ -241,6 +279,7 @@ pub record OneAnswerEach : Type 0 where
   pub number-Number-at-most-single : Single number-Number-at-most.Post
   pub number-Number-within-single : Single number-Number-within.Post
   pub number-power-single : Single number-power.Post
+  pub number-smaller-single : Single number-smaller.Post
   -- quantity
   pub quantity-BarometerUnit-holds-single : Single quantity-BarometerUnit-holds.Post
   pub quantity-Hectopascals-holds-single : Single quantity-Hectopascals-holds.Post
@@ -263,13 +302,16 @@ pub record OneAnswerEach : Type 0 where
   pub quantity-MetresPerSecond-parts-single : Single quantity-MetresPerSecond-parts.Post
   pub quantity-Knots-parts-single : Single quantity-Knots-parts.Post
   pub quantity-Degrees-keep-single : Single quantity-Degrees-keep.Post
-  -- wire
+  -- octets
   pub octets-two-single : Single octets-two.Post
   pub octets-four-single : Single octets-four.Post
   pub octets-in-two-single : Single octets-in-two.Post
   pub octets-in-four-single : Single octets-in-four.Post
   pub octets-signed-single : Single octets-signed.Post
   pub octets-unsigned-single : Single octets-unsigned.Post
+  pub octets-signed-word-single : Single octets-signed-word.Post
+  pub octets-word-of-single : Single octets-word-of.Post
+  -- wire
   pub wire-decode-single : Single wire-decode.Post
   pub wire-number-single : Single wire-number.Post
   -- message
@@ -324,6 +366,7 @@ pub record OneAnswerEach : Type 0 where
   pub store-note-single : Single store-note.Post
   pub store-note-left : SingleLeft store-note.Post (λ κs s. s .0 .now)
   pub store-recall-single : Single store-recall.Post
+  pub store-next-single : Single store-next.Post
   pub store-missing-minutes-single : Single store-missing-minutes.Post
   pub store-number-single : Single store-number.Post
   -- pressure
@@ -413,12 +456,14 @@ pub record OneAnswerEach : Type 0 where
   pub desk-tendency-record-single : Single desk-tendency-record.Post
   pub desk-wind-record-single : Single desk-wind-record.Post
   pub desk-humidity-record-single : Single desk-humidity-record.Post
-  pub desk-place-single : Single desk-place.Post
-  pub desk-place-left : SingleLeft desk-place.Post (λ κs s. s .0 .now)
-  pub desk-empty-single : Single desk-empty.Post
-  pub desk-empty-left : SingleLeft desk-empty.Post (λ κs s. s .0 .now)
-  pub desk-write-single : Single desk-write.Post
-  pub desk-write-left : SingleLeft desk-write.Post (λ κs s. s .0 .now)
+  pub logbook-place-single : Single logbook-place.Post
+  pub logbook-place-left : SingleLeft logbook-place.Post (λ κs s. s .0 .now)
+  pub logbook-empty-single : Single logbook-empty.Post
+  pub logbook-empty-left : SingleLeft logbook-empty.Post (λ κs s. s .0 .now)
+  pub logbook-write-single : Single logbook-write.Post
+  pub logbook-write-left : SingleLeft logbook-write.Post (λ κs s. s .0 .now)
+  pub logbook-take-out-single : Single logbook-take-out.Post
+  pub logbook-take-out-left : SingleLeft logbook-take-out.Post (λ κs s. s .0 .now)
   -- answer
   pub answer-put-line-single : Single answer-put-line.Post
   pub answer-put-line-left : SingleLeft answer-put-line.Post (λ κs s. s .0 .now)
@@ -465,18 +510,71 @@ pub record OneAnswerEach : Type 0 where
   pub notice-put-counts-single : Single notice-put-counts.Post
   pub notice-put-counts-left : SingleLeft notice-put-counts.Post (λ κs s. s .0 .now)
   -- told
-  pub told-settings-of-single : Single told-settings-of.Post
   pub told-hearing-told-single : Single told-hearing-told.Post
   pub told-noting-told-single : Single told-noting-told.Post
   pub told-pressure-told-single : Single told-pressure-told.Post
   pub told-tendency-told-single : Single told-tendency-told.Post
   pub told-wind-told-single : Single told-wind-told.Post
   pub told-humidity-told-single : Single told-humidity-told.Post
+  -- sheet
+  pub sheet-settings-in-single : Single sheet-settings-in.Post
+  pub sheet-read-single : Single sheet-read.Post
+  pub sheet-read-left : SingleLeft sheet-read.Post (λ κs s. s .1 .0 .now)
+  -- spoken
+  pub spoken-put-pressure-single : Single spoken-put-pressure.Post
+  pub spoken-put-pressure-left : SingleLeft spoken-put-pressure.Post (λ κs s. s .0 .now)
+  pub spoken-put-tendency-single : Single spoken-put-tendency.Post
+  pub spoken-put-tendency-left : SingleLeft spoken-put-tendency.Post (λ κs s. s .0 .now)
+  pub spoken-put-wind-single : Single spoken-put-wind.Post
+  pub spoken-put-wind-left : SingleLeft spoken-put-wind.Post (λ κs s. s .0 .now)
+  pub spoken-put-humidity-single : Single spoken-put-humidity.Post
+  pub spoken-put-humidity-left : SingleLeft spoken-put-humidity.Post (λ κs s. s .0 .now)
+  pub spoken-put-reading-single : Single spoken-put-reading.Post
+  pub spoken-put-reading-left : SingleLeft spoken-put-reading.Post (λ κs s. s .0 .now)
+  pub spoken-put-refusal-single : Single spoken-put-refusal.Post
+  pub spoken-put-refusal-left : SingleLeft spoken-put-refusal.Post (λ κs s. s .0 .now)
+  -- kept
+  pub kept-newest-single : Single kept-newest.Post
+  pub kept-reading-single : Single kept-reading.Post
+  pub kept-stretch-single : Single kept-stretch.Post
+  pub kept-stretch-left : SingleLeft kept-stretch.Post (λ κs s. s .1 .1 .1 .0 .now)
+  -- entered
+  pub entered-record-single : Single entered-record.Post
+  pub entered-record-left : SingleLeft entered-record.Post (λ κs s. s .1 .1 .1 .0 .now)
   -- filed
   pub filed-file-told-single : Single filed-file-told.Post
   pub filed-write-told-single : Single filed-write-told.Post
+  pub filed-place-told-single : Single filed-place-told.Post
   pub filed-listed-told-single : Single filed-listed-told.Post
   -- zhitomrak
+  pub zhitomrak-zhitomrak-version-single : Single zhitomrak-zhitomrak-version.Post
+  pub bridge-zhitomrak-settings-of-single : Single bridge-zhitomrak-settings-of.Post
+  pub bridge-zhitomrak-settings-of-left : SingleLeft bridge-zhitomrak-settings-of.Post (λ κs s. s .1 .0 .now)
+  pub bridge-zhitomrak-hear-all-single : Single bridge-zhitomrak-hear-all.Post
+  pub bridge-zhitomrak-hear-all-left : SingleLeft bridge-zhitomrak-hear-all.Post (λ κs s. s .0 .now)
+  pub bridge-zhitomrak-hear-all-counts : SingleLeft bridge-zhitomrak-hear-all.Post (λ κs s. s .1 .1 .0 .now)
+  pub bridge-zhitomrak-newest-single : Single bridge-zhitomrak-newest.Post
+  pub bridge-zhitomrak-reading-single : Single bridge-zhitomrak-reading.Post
+  pub bridge-zhitomrak-stretch-single : Single bridge-zhitomrak-stretch.Post
+  pub bridge-zhitomrak-stretch-left : SingleLeft bridge-zhitomrak-stretch.Post (λ κs s. s .1 .1 .1 .0 .now)
+  pub bridge-zhitomrak-record-of-single : Single bridge-zhitomrak-record-of.Post
+  pub bridge-zhitomrak-record-of-left : SingleLeft bridge-zhitomrak-record-of.Post (λ κs s. s .1 .1 .1 .0 .now)
+  pub bridge-zhitomrak-place-single : Single bridge-zhitomrak-place.Post
+  pub bridge-zhitomrak-place-left : SingleLeft bridge-zhitomrak-place.Post (λ κs s. s .0 .now)
+  pub bridge-zhitomrak-take-out-single : Single bridge-zhitomrak-take-out.Post
+  pub bridge-zhitomrak-take-out-left : SingleLeft bridge-zhitomrak-take-out.Post (λ κs s. s .0 .now)
+  pub bridge-zhitomrak-say-refusal-single : Single bridge-zhitomrak-say-refusal.Post
+  pub bridge-zhitomrak-say-refusal-left : SingleLeft bridge-zhitomrak-say-refusal.Post (λ κs s. s .1 .1 .1 .0 .now)
+  pub bridge-zhitomrak-say-pressure-single : Single bridge-zhitomrak-say-pressure.Post
+  pub bridge-zhitomrak-say-pressure-left : SingleLeft bridge-zhitomrak-say-pressure.Post (λ κs s. s .1 .0 .now)
+  pub bridge-zhitomrak-say-tendency-single : Single bridge-zhitomrak-say-tendency.Post
+  pub bridge-zhitomrak-say-tendency-left : SingleLeft bridge-zhitomrak-say-tendency.Post (λ κs s. s .1 .0 .now)
+  pub bridge-zhitomrak-say-wind-single : Single bridge-zhitomrak-say-wind.Post
+  pub bridge-zhitomrak-say-wind-left : SingleLeft bridge-zhitomrak-say-wind.Post (λ κs s. s .1 .0 .now)
+  pub bridge-zhitomrak-say-humidity-single : Single bridge-zhitomrak-say-humidity.Post
+  pub bridge-zhitomrak-say-humidity-left : SingleLeft bridge-zhitomrak-say-humidity.Post (λ κs s. s .1 .0 .now)
+  pub bridge-zhitomrak-say-reading-single : Single bridge-zhitomrak-say-reading.Post
+  pub bridge-zhitomrak-say-reading-left : SingleLeft bridge-zhitomrak-say-reading.Post (λ κs s. s .1 .0 .now)
   pub zhitomrak-zhitomrak-open-single : Single zhitomrak-zhitomrak-open.Post
   pub zhitomrak-zhitomrak-open-left : SingleLeft zhitomrak-zhitomrak-open.Post (λ κs s. s .0 .now)
   pub zhitomrak-zhitomrak-hear-single : Single zhitomrak-zhitomrak-hear.Post
@@ -510,6 +608,7 @@ one-answer-each =
       number-Number-at-most-single = number.single-at-most;
       number-Number-within-single = number.single-within;
       number-power-single = number.single-power;
+      number-smaller-single = number.single-smaller;
       quantity-BarometerUnit-holds-single = quantity.single-barometer-unit;
       quantity-Hectopascals-holds-single = quantity.single-hectopascals;
       quantity-Hectopascals-recorded-single = quantity.single-recorded;
@@ -537,6 +636,8 @@ one-answer-each =
       octets-in-four-single = octets.single-in-four;
       octets-signed-single = octets.single-signed;
       octets-unsigned-single = octets.single-unsigned;
+      octets-signed-word-single = octets.single-signed-word;
+      octets-word-of-single = octets.single-word-of;
       wire-decode-single = wire.single-decode;
       wire-number-single = wire.single-number;
       message-receive-single = message.single-receive;
@@ -583,6 +684,7 @@ one-answer-each =
       store-note-single = store.single-note;
       store-note-left = store.single-note-left;
       store-recall-single = store.single-recall;
+      store-next-single = store.single-next;
       store-missing-minutes-single = store.single-missing-minutes;
       store-number-single = store.single-number;
       pressure-sea-level-pressure-single = pressure.single-sea-level-pressure;
@@ -658,12 +760,14 @@ one-answer-each =
       desk-tendency-record-single = desk.single-tendency-record;
       desk-wind-record-single = desk.single-wind-record;
       desk-humidity-record-single = desk.single-humidity-record;
-      desk-place-single = desk.single-place;
-      desk-place-left = desk.single-place-left;
-      desk-empty-single = desk.single-empty;
-      desk-empty-left = desk.single-empty-left;
-      desk-write-single = desk.single-write;
-      desk-write-left = desk.single-write-left;
+      logbook-place-single = logbook.single-place;
+      logbook-place-left = logbook.single-place-left;
+      logbook-empty-single = logbook.single-empty;
+      logbook-empty-left = logbook.single-empty-left;
+      logbook-write-single = logbook.single-write;
+      logbook-write-left = logbook.single-write-left;
+      logbook-take-out-single = logbook.single-take-out;
+      logbook-take-out-left = logbook.single-take-out-left;
       answer-put-line-single = answer.single-put-line;
       answer-put-line-left = answer.single-put-line-text;
       answer-put-opening-single = answer.single-put-opening;
@@ -703,16 +807,65 @@ one-answer-each =
       notice-put-fault-left = notice.single-put-fault-text;
       notice-put-counts-single = notice.single-put-counts;
       notice-put-counts-left = notice.single-put-counts-text;
-      told-settings-of-single = told.single-settings-of;
       told-hearing-told-single = told.single-hearing-told;
       told-noting-told-single = told.single-noting-told;
       told-pressure-told-single = told.single-pressure-told;
       told-tendency-told-single = told.single-tendency-told;
       told-wind-told-single = told.single-wind-told;
       told-humidity-told-single = told.single-humidity-told;
+      sheet-settings-in-single = sheet.single-settings-in;
+      sheet-read-single = sheet.single-read;
+      sheet-read-left = sheet.single-read-left;
+      spoken-put-pressure-single = spoken.single-put-pressure;
+      spoken-put-pressure-left = spoken.single-put-pressure-text;
+      spoken-put-tendency-single = spoken.single-put-tendency;
+      spoken-put-tendency-left = spoken.single-put-tendency-text;
+      spoken-put-wind-single = spoken.single-put-wind;
+      spoken-put-wind-left = spoken.single-put-wind-text;
+      spoken-put-humidity-single = spoken.single-put-humidity;
+      spoken-put-humidity-left = spoken.single-put-humidity-text;
+      spoken-put-reading-single = spoken.single-put-reading;
+      spoken-put-reading-left = spoken.single-put-reading-text;
+      spoken-put-refusal-single = spoken.single-put-refusal;
+      spoken-put-refusal-left = spoken.single-put-refusal-text;
+      kept-newest-single = kept.single-newest;
+      kept-reading-single = kept.single-reading;
+      kept-stretch-single = kept.single-stretch;
+      kept-stretch-left = kept.single-stretch-left;
+      entered-record-single = entered.single-record;
+      entered-record-left = entered.single-record-left;
       filed-file-told-single = filed.single-file-told;
       filed-write-told-single = filed.single-write-told;
+      filed-place-told-single = filed.single-place-told;
       filed-listed-told-single = filed.single-listed-told;
+      zhitomrak-zhitomrak-version-single = zhitomrak.single-version;
+      bridge-zhitomrak-settings-of-single = bridge.single-settings-of;
+      bridge-zhitomrak-settings-of-left = bridge.single-settings-of-left;
+      bridge-zhitomrak-hear-all-single = bridge.single-hear-all;
+      bridge-zhitomrak-hear-all-left = bridge.single-hear-all-left;
+      bridge-zhitomrak-hear-all-counts = bridge.single-hear-all-counts;
+      bridge-zhitomrak-newest-single = bridge.single-newest;
+      bridge-zhitomrak-reading-single = bridge.single-reading;
+      bridge-zhitomrak-stretch-single = bridge.single-stretch;
+      bridge-zhitomrak-stretch-left = bridge.single-stretch-left;
+      bridge-zhitomrak-record-of-single = bridge.single-record-of;
+      bridge-zhitomrak-record-of-left = bridge.single-record-of-left;
+      bridge-zhitomrak-place-single = bridge.single-place;
+      bridge-zhitomrak-place-left = bridge.single-place-left;
+      bridge-zhitomrak-take-out-single = bridge.single-take-out;
+      bridge-zhitomrak-take-out-left = bridge.single-take-out-left;
+      bridge-zhitomrak-say-refusal-single = bridge.single-say-refusal;
+      bridge-zhitomrak-say-refusal-left = bridge.single-say-refusal-left;
+      bridge-zhitomrak-say-pressure-single = bridge.single-say-pressure;
+      bridge-zhitomrak-say-pressure-left = bridge.single-say-pressure-left;
+      bridge-zhitomrak-say-tendency-single = bridge.single-say-tendency;
+      bridge-zhitomrak-say-tendency-left = bridge.single-say-tendency-left;
+      bridge-zhitomrak-say-wind-single = bridge.single-say-wind;
+      bridge-zhitomrak-say-wind-left = bridge.single-say-wind-left;
+      bridge-zhitomrak-say-humidity-single = bridge.single-say-humidity;
+      bridge-zhitomrak-say-humidity-left = bridge.single-say-humidity-left;
+      bridge-zhitomrak-say-reading-single = bridge.single-say-reading;
+      bridge-zhitomrak-say-reading-left = bridge.single-say-reading-left;
       zhitomrak-zhitomrak-open-single = zhitomrak.single-open;
       zhitomrak-zhitomrak-open-left = zhitomrak.single-open-left;
       zhitomrak-zhitomrak-hear-single = zhitomrak.single-hear;

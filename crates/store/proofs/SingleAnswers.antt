@@ -21,6 +21,7 @@ use Rattle.store.proofs.«open».Reads as opening
 use Rattle.store.proofs.hear.Reads as hear
 use Rattle.store.proofs.note.Reads as note
 use Rattle.store.proofs.recall.Reads as recall
+use Rattle.store.proofs.next.Reads as next
 use Rattle.store.proofs.missing_minutes.Reads as missing-minutes
 
 pub single-number : Single number.Post
@@ -98,6 +99,9 @@ single-note-left κs a r r′ s s′ p q = p .block ∙ sym (q .block)
 
 pub single-recall : Single recall.Post
 single-recall κs a r r′ s s′ p q = sym (recall-back (a .1 .1 .0) r) ∙ ap recall-of (p ∙ sym q) ∙ recall-back (a .1 .1 .0) r′
+
+pub single-next : Single next.Post
+single-next κs a r r′ s s′ p q = p ∙ sym q
 
 pub single-missing-minutes : Single missing-minutes.Post
 single-missing-minutes κs a r r′ s s′ p q = p ∙ sym q

@@ -78,6 +78,10 @@ recallIn u c m (Cell v) = cellSays u c m v
 unfoldable pub recallOf : List ℕ → ℕ → ℕ → Recall
 recallOf s c m = cond (ltb c CHANNELS) (recallIn (unitOf s) c m (window.kept (windowOf c s) m)) absent
 
+-- The minute after a channel's newest; 0 where nothing is heard of it, or it is none.
+abbrev pub followingOf : List ℕ → ℕ → ℕ
+followingOf s c = cond (ltb c CHANNELS) (nextIn s c) 0
+
 -- "the number of absent .. minutes among the 179 strictly between"
 unfoldable pub absentOf : List ℕ → ℕ → ℕ → ℕ
 absentOf s c m = cond (ltb c CHANNELS) (absents (present (windowOf c s)) m minutesBetween) minutesBetween

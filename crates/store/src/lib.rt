@@ -11,7 +11,7 @@ ghost use Rattle.block.specs.Layout.{WORDS};
 ghost use Rattle.window.specs.Window.{accepted};
 ghost use Rattle.block.specs.Words.{windowOf, replaced};
 ghost use Rattle.store.specs.Noting.{IsCourse, workedAs, worked, Notes};
-ghost use Rattle.store.specs.Block.{openedBy, heardAs, newestTests, nextIn, outcome, recallOf, absentOf, Keeps, Hears};
+ghost use Rattle.store.specs.Block.{openedBy, heardAs, newestTests, nextIn, outcome, recallOf, followingOf, absentOf, Keeps, Hears};
 use anemometer::Measured;
 use anemometer::Note;
 use block::NO_STORE;
@@ -194,6 +194,17 @@ pub fn recall(store: &Store, channel: u32, minute: u32) -> Recalled
         Found::Absent => Recalled::Missing,
         Found::Cell(v) => cell::reading_in(block::unit(store), channel, v),
     }
+}
+
+// The minute after a channel's newest; 0 where nothing is heard of it, or it is none.
+pub fn next(store: &Store, channel: u32) -> u64
+    ensures { λ r. ⌜ r ≡ followingOf (now (store .entry)) channel ⌝ }
+{
+    if channel >= 6 {
+        return 0;
+    }
+    let c = channel as usize;
+    window::next(window_of(store, c))
 }
 
 // How many of a channel's minutes strictly between minute - 180 and minute are absent.

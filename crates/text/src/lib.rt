@@ -1,16 +1,10 @@
 // Text into a lent buffer. What would lie beyond the buffer's end is cut off, so that a text can be put anywhere, and one text
 // behind another is the two of them joined.
 ghost use mathlib.Core.List.{[], _∷_};
-ghost use Prim.Native.Nat.{_%_, min};
+ghost use Prim.Native.Nat.{_%_};
 ghost use mathlib.Core.Path.{_≡_};
 ghost use Rattle.text.specs.Text.{digit, decimal, decimalOf, field, fieldOf, Put};
 use number::Number;
-
-fn smaller(a: usize, b: usize) -> usize
-    ensures { λ r. ⌜ r ≡ min a b ⌝ }
-{
-    if a < b { a } else { b }
-}
 
 // Puts a byte at a place. The place behind it.
 pub fn put_byte(text: &mut [u8], at: usize, b: u8) -> usize
@@ -61,7 +55,7 @@ pub fn put_bytes(text: &mut [u8], at: usize, bytes: &[u8]) -> usize
     if text.len() <= at {
         return text.len();
     }
-    let fitting = smaller(bytes.len(), text.len() - at);
+    let fitting = number::smaller(bytes.len(), text.len() - at);
     let mut i = 0;
     while i < fitting {
         text[at + i] = bytes[i];

@@ -1,16 +1,12 @@
 -- Each public contract allows a single answer: it is the one that its definition gives. Assumes nothing.
 use mathlib.Core.Path.{sym, _∙_}
 use Rattle.number.specs.Single.{Single}
-use Rattle.told.proofs.settings_of.Reads as settings-of
 use Rattle.told.proofs.hearing_told.Reads as hearing-told
 use Rattle.told.proofs.noting_told.Reads as noting-told
 use Rattle.told.proofs.pressure_told.Reads as pressure-told
 use Rattle.told.proofs.tendency_told.Reads as tendency-told
 use Rattle.told.proofs.wind_told.Reads as wind-told
 use Rattle.told.proofs.humidity_told.Reads as humidity-told
-
-pub single-settings-of : Single settings-of.Post
-single-settings-of κs a r r′ s s′ p q = p ∙ sym q
 
 pub single-hearing-told : Single hearing-told.Post
 single-hearing-told κs a r r′ s s′ p q = p ∙ sym q

@@ -1,21 +1,11 @@
-// Settings and answers as C sees them: the documents' number, what a refusal also returns, and figures. A number of 0 says that
+// Answers as C sees them: the documents' number, what a refusal also returns, and figures. A number of 0 says that
 // nothing was refused.
 ghost use mathlib.Core.Path.{_≡_};
 ghost use Rattle.store.specs.Block.{heardAs};
 ghost use Rattle.station.specs.Told.{refusalOf, pressureAs, tendencyAs, windAs, humidityAs};
 ghost use Rattle.told.specs.Told.{heardIn, notedIn, refusalIn, pressureIn, tendencyIn, windIn, humidityIn};
-ghost use Rattle.told.specs.Opening.{unitIn, settingsIn};
 use number::Kept;
 use number::Number;
-use quantity::BarometerUnit;
-use settings::Anemometer;
-use settings::Height;
-use settings::POINTS;
-use settings::Point;
-use settings::PsychrometerCoefficient;
-use settings::SeaLevelDifference;
-use settings::Settings;
-use settings::TemperatureCoefficient;
 use station::HumidityAnswer;
 use station::PressureAnswer;
 use station::QuestionRefusal;
@@ -23,19 +13,6 @@ use station::Refused;
 use station::TendencyAnswer;
 use station::WindAnswer;
 use store::Hearing;
-
-// The settings of a store. The unit is 0 for hPa and 1 for mm Hg.
-#[repr(C)]
-pub struct StoreSettings {
-    pub unit: u32,
-    pub height: Height,
-    pub difference: SeaLevelDifference,
-    pub coefficient: TemperatureCoefficient,
-    pub psychrometer: PsychrometerCoefficient,
-    pub count: u32,
-    pub points: [Point; POINTS],
-    pub anemometer: Anemometer,
-}
 
 // What hearing a message came to: the number, and the minutes where it was late, 19.
 #[repr(C)]
@@ -63,7 +40,7 @@ pub struct Refusal {
 }
 
 // Nothing is refused.
-const NONE: Refusal = Refusal {
+pub const NONE: Refusal = Refusal {
     number: 0,
     channel: 0,
     minute: 0,
@@ -98,41 +75,6 @@ pub struct HumidityTold {
     pub deficit: u32,
     pub relative: u32,
     pub dew: Kept,
-}
-
-// ---- opening
-
-// The unit of a number.
-fn unit_of(n: u32) -> BarometerUnit
-    ensures { λ r. ⌜ r ≡ unitIn n ⌝ }
-{
-    if n == 0 {
-        return BarometerUnit::Hectopascals;
-    }
-    BarometerUnit::Millimetres
-}
-
-// The settings as the station takes them.
-pub fn settings_of(s: StoreSettings) -> Settings
-    ensures { λ r. ⌜ r ≡ settingsIn s ⌝ }
-{
-    let unit = unit_of(s.unit);
-    let height = s.height;
-    let difference = s.difference;
-    let coefficient = s.coefficient;
-    let psychrometer = s.psychrometer;
-    let points = s.points;
-    let anemometer = s.anemometer;
-    Settings {
-        unit,
-        height,
-        difference,
-        coefficient,
-        psychrometer,
-        count: s.count,
-        points,
-        anemometer,
-    }
 }
 
 // ---- hearing

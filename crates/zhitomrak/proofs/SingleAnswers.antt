@@ -1,5 +1,5 @@
--- Each exported contract allows a single answer, and `open`, `hear`, `note`, `write` and `list` a single content of what they are lent: the
--- station's answer is one, and it is told in one way; the dew point has one rule. Assumes nothing.
+-- Each exported contract allows a single answer, and a single content of what it is lent to write: the station's answer is one, and it is
+-- told in one way; the dew point has one rule. Assumes nothing.
 use mathlib.Core.Path.{_≡_, sym, ap, _∙_}
 use mathlib.Core.List.{List, [], _∷_}
 use Prim.Native.Nat.{ℕ}
@@ -24,6 +24,7 @@ use Rattle.zhitomrak.proofs.zhitomrak_read.Reads as read
 use Rattle.zhitomrak.proofs.zhitomrak_record_at.Reads as record-at
 use Rattle.zhitomrak.proofs.zhitomrak_write_words.Reads as write
 use Rattle.zhitomrak.proofs.zhitomrak_list.Reads as list
+use Rattle.zhitomrak.proofs.zhitomrak_version.Reads as version
 
 -- ---- open, hear and note
 
@@ -85,3 +86,6 @@ single-list κs a r r′ s s′ p q = p (the-rule .0) (the-rule .1) .answer ∙ 
 
 pub single-list-left : SingleLeft list.Post (λ κs s. s .1 .0 .now)
 single-list-left κs a r r′ s s′ p q = p (the-rule .0) (the-rule .1) .bytes ∙ sym (q (the-rule .0) (the-rule .1) .bytes)
+
+pub single-version : Single version.Post
+single-version κs a r r′ s s′ p q = p ∙ sym q

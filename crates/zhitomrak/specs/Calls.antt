@@ -5,9 +5,10 @@ use mathlib.Core.List.{List}
 use Prim.Native.Nat.{ℕ}
 use lib.Dec.{ltb}
 use lib.IntN.{ℤ}
-use lib.ListN.{length}
+use lib.ListN.{length, getD}
 use Rattle.number.specs.Refusal.{Answer, Numbered, numberIn}
 use Rattle.settings.specs.Settings.{checked}
+use Rattle.sheet.specs.Sheet.{settingsIn}
 use Rattle.store.specs.Block.{openedBy, hearing, heardBy, outcome}
 use Rattle.anemometer.specs.declared.Note.{Note}
 use Rattle.store.specs.Noting.{noting, notedBy}
@@ -18,8 +19,6 @@ use Rattle.writer.specs.Write.{offered}
 use Rattle.octets.specs.Lent.{sized, leftBy}
 use Rattle.listing.specs.Listing.{listing}
 use Rattle.told.specs.Told.{heardIn, notedIn, Told, toldIn}
-use Rattle.told.specs.Opening.{settingsIn}
-use Rattle.told.specs.declared.StoreSettings.{StoreSettings}
 use Rattle.told.specs.declared.HearTold.{HearTold}
 use Rattle.told.specs.declared.NoteTold.{NoteTold}
 use Rattle.filed.specs.Files.{writeIn, listIn}
@@ -29,13 +28,13 @@ use Rattle.filed.specs.declared.ListTold.{ListTold}
 -- ---- opening and hearing
 
 -- A unit other than 0 and 1 is none: 9, "a setting other than the certificate outside limits".
-abbrev pub noUnit : StoreSettings → Bool
-noUnit g = ltb 1 (g .unit)
+abbrev pub noUnit : List ℕ → Bool
+noUnit w = ltb 1 (getD w 0 0)
 
--- The block s was opened with settings g, is s′ then, and r is the answer.
-pub record OpenedAs (s s′ : List ℕ) (g : StoreSettings) (r : ℕ) : Type 0 where
-  pub answer : r ≡ cond (noUnit g) 9 (numberIn (checked (settingsIn g)))
-  pub block : s′ ≡ cond (noUnit g) s (openedBy s (settingsIn g))
+-- The block s was opened with the settings of a sheet w, is s′ then, and r is the answer.
+pub record OpenedAs (s s′ w : List ℕ) (r : ℕ) : Type 0 where
+  pub answer : r ≡ cond (noUnit w) 9 (numberIn (checked (settingsIn w)))
+  pub block : s′ ≡ cond (noUnit w) s (openedBy s (settingsIn w))
 
 -- A message was heard, and answered by r.
 pub record HeardAs (s s′ m : List ℕ) (r : HearTold) : Type 0 where

@@ -1,4 +1,4 @@
-// What ships' software calls from C and Rust: a static library over the station and the watch file.
+// What ships' software calls from C and Rust: a static library over the station and the watch file. What it calls besides is `bridge`.
 // Any block, bytes, numbers and room get an answer. A number of a refusal is the documents'; 0 says that nothing was refused, and 255,
 // which is none of theirs, that the block was never opened.
 ghost use mathlib.Core.Path.{_≡_};
@@ -15,27 +15,38 @@ use block::Store;
 use filed::FileTold;
 use filed::ListTold;
 use filed::WriteTold;
+use sheet::Sheet;
 use told::HearTold;
 use told::HumidityTold;
 use told::NoteTold;
 use told::PressureTold;
-use told::StoreSettings;
 use told::TendencyTold;
 use told::WindTold;
 use watchfile::Figures;
 
+// The version of the library: 10000 for the first number, 100 for the second, 1 for the third.
+const VERSION: u32 = 100;
+
+// The version that this library is.
+#[no_mangle]
+pub extern "C" fn zhitomrak_version() -> u32
+    ensures { λ r. ⌜ r ≡ 100 ⌝ }
+{
+    VERSION
+}
+
 // ---- opening and hearing
 
-// Opens a store in the block: 0, and nothing is heard yet; or 9, 10 or 25, and the block stays as it was, opened before or not. A unit
-// that is neither 0 nor 1 is 9.
+// Opens a store in the block with the settings of a sheet: 0, and nothing is heard yet; or 9, 10 or 25, and the block stays as it was,
+// opened before or not. A unit that is neither 0 nor 1 is 9.
 #[no_mangle]
-pub extern "C" fn zhitomrak_open(store: &mut Store, settings: StoreSettings) -> u32
-    ensures { λ r. ⌜ OpenedAs (now (store .entry)) (now (store .exit)) settings r ⌝ }
+pub extern "C" fn zhitomrak_open(store: &mut Store, settings: &Sheet) -> u32
+    ensures { λ r. ⌜ OpenedAs (now (store .entry)) (now (store .exit)) (now (settings .entry)) r ⌝ }
 {
-    if settings.unit > 1 {
+    if settings[0] > 1 {
         return 9;
     }
-    settings::number(station::open(store, told::settings_of(settings)))
+    settings::number(station::open(store, sheet::settings_in(settings)))
 }
 
 // Hears a message: 0, and it is kept; or 1 to 8, or 19 with the minutes that it is late, and the block stays as it was. So does one

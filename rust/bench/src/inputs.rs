@@ -5,7 +5,7 @@ use reference::{
     anemometer, humidity, pressure, settings, station, vapour, watchfile as independent, wind,
 };
 use zhitomrak::watchfile as proved;
-use zhitomrak::{AnemometerPoint, Entry, Humidity, Point, Settings, Store, Tendency, Unit, Wind};
+use zhitomrak::{raw, Entry, Settings, Store, Unit};
 
 /// A barometer: its unit, its certificate, and the readings that it has.
 pub struct Barometer {
@@ -28,10 +28,6 @@ pub const MM_HG: Barometer = Barometer {
 };
 
 pub fn open_proved(barometer: &Barometer) -> Store {
-    let certificate = barometer.points.map(|(reading, correction)| Point {
-        reading,
-        correction,
-    });
     let settings = Settings {
         unit: if barometer.mm_hg {
             Unit::Millimetres
@@ -42,8 +38,8 @@ pub fn open_proved(barometer: &Barometer) -> Store {
         difference: -268,
         coefficient: 24,
         psychrometer: 662,
-        certificate: &certificate,
-        anemometer: &TABLE_1.map(|(rate, speed)| AnemometerPoint { rate, speed }),
+        certificate: barometer.points.into(),
+        anemometer: TABLE_1.into(),
     };
     Store::open(&settings).expect("the settings are good")
 }
@@ -213,31 +209,27 @@ pub fn records(count: usize) -> Records {
     for i in 0..count {
         let minute = 200 + 3 * i as u32;
         let n = scattered(i as u32 + 1, 900) as i32;
-        let (mine, theirs) = match i % 4 {
+        let (figures, theirs) = match i % 4 {
             0 => (
-                proved::Body::Pressure(9000 + n),
+                [9000 + n, 0, 0, 0, 0],
                 independent::Body::Pressure(9000 + n),
             ),
-            1 => (
-                proved::Body::Tendency(Tendency {
+            1 => {
+                let t = pressure::Tendency {
                     change: n - 450,
                     absent: n % 180,
-                }),
-                independent::Body::Tendency(pressure::Tendency {
-                    change: n - 450,
-                    absent: n % 180,
-                }),
-            ),
-            2 => (
-                proved::Body::Wind(Wind {
+                };
+                let figures = [t.change, t.absent, 0, 0, 0];
+                (figures, independent::Body::Tendency(t))
+            }
+            2 => {
+                let w = wind::Wind {
                     speed: 1 + n,
                     direction: 1 + n % 360,
-                }),
-                independent::Body::Wind(wind::Wind {
-                    speed: 1 + n,
-                    direction: 1 + n % 360,
-                }),
-            ),
+                };
+                let figures = [w.speed, w.direction, 0, 0, 0];
+                (figures, independent::Body::Wind(w))
+            }
             _ => {
                 let (e, saturation) = (19 + n, 1000 + n);
                 let h = humidity::Humidity {
@@ -247,17 +239,16 @@ pub fn records(count: usize) -> Records {
                     relative: humidity::relative(e, saturation),
                     dew: vapour::dew_point(e).expect("within the table"),
                 };
-                let mine = Humidity {
-                    e: h.e,
-                    saturation: h.saturation,
-                    deficit: h.deficit,
-                    relative: h.relative,
-                    dew: h.dew,
-                };
-                (proved::Body::Humidity(mine), independent::Body::Humidity(h))
+                let figures = [h.e, h.saturation, h.deficit, h.relative, h.dew];
+                (figures, independent::Body::Humidity(h))
             }
         };
-        both.0.push(proved::Record::new(minute, mine));
+        let mine = raw::Record {
+            kind: 1 + i as u32 % 4,
+            minute,
+            figures,
+        };
+        both.0.push(mine.into());
         both.1.push(independent::Record {
             minute,
             body: theirs,

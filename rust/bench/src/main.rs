@@ -12,7 +12,7 @@ use std::time::Instant;
 use inputs::{Barometer, Bulbs, Message, CROSSED, HPA, ICE, MM_HG, NARROW, UNKNOWN, WATER};
 use reference::{anemometer, listing, station, watchfile as independent};
 use zhitomrak::watchfile as proved;
-use zhitomrak::{raw, Entry, Store};
+use zhitomrak::{Entry, Humidity, Pressure, Store, Tendency, Wind};
 
 const ROUNDS: usize = 60;
 
@@ -109,8 +109,14 @@ fn not_later(refused: u32, sent: &[Message], again: &[Message]) {
         // with the minutes of 19
         same(
             &name,
-            mine.map_err(|r| r.to_string()),
-            theirs.map_err(|r| r.to_string()),
+            match mine {
+                Err(zhitomrak::Refused::Late { minutes }) => minutes,
+                _ => 0,
+            },
+            match theirs {
+                Err(reference::refusal::Refused::Late { minutes }) => minutes.into(),
+                _ => 0,
+            },
         );
     }
     row(
@@ -157,7 +163,7 @@ fn noting(name: &str, refused: u32, divisions: (u32, u32)) {
         same(name, number(&told.1, |r| u32::from(r.number())), refused);
         same(
             name,
-            a.wind(minute).ok().map(|w| (w.speed, w.direction)),
+            a.wind(minute).ok().map(of_wind),
             b.wind(minute).ok().map(|w| (w.speed, w.direction)),
         );
     }
@@ -224,27 +230,52 @@ fn ask(asked: &[u32], figure: impl Fn(u32) -> i32) -> u64 {
         .fold(0, u64::wrapping_add)
 }
 
+/// The figures of the proved side's answers, as the independent side has them.
+fn of_pressure(p: Pressure) -> i32 {
+    p.tenths() as i32
+}
+
+fn of_tendency(t: Tendency) -> (i32, i32) {
+    (t.change.tenths() as i32, t.absent as i32)
+}
+
+fn of_wind(w: Wind) -> (i32, i32) {
+    (w.speed.tenths() as i32, w.direction.degrees() as i32)
+}
+
+fn of_humidity(h: Humidity) -> (i32, i32, i32) {
+    (
+        h.vapour_pressure.hundredths() as i32,
+        h.relative_humidity as i32,
+        h.dew_point.tenths(),
+    )
+}
+
+fn sum((a, b): (i32, i32)) -> i32 {
+    a + b
+}
+
 fn compare_questions(a: &Store, b: &station::Store, asked: &[u32]) {
     let mut answered = [0; 4];
     for &m in asked {
         let p = (a.pressure(m), b.pressure(m));
-        same("pressure", p.0.ok(), p.1.ok());
+        same("pressure", p.0.ok().map(of_pressure), p.1.ok());
         let t = (a.tendency(m), b.tendency(m));
         same(
             "tendency",
-            t.0.ok().map(|t| (t.change, t.absent)),
+            t.0.ok().map(of_tendency),
             t.1.ok().map(|t| (t.change, t.absent)),
         );
         let w = (a.wind(m), b.wind(m));
         same(
             "wind",
-            w.0.ok().map(|w| (w.speed, w.direction)),
+            w.0.ok().map(of_wind),
             w.1.ok().map(|w| (w.speed, w.direction)),
         );
         let h = (a.humidity(m), b.humidity(m));
         same(
             "humidity",
-            h.0.ok().map(|h| (h.e, h.relative, h.dew)),
+            h.0.ok().map(of_humidity),
             h.1.ok().map(|h| (h.e, h.relative, h.dew)),
         );
         let given = [p.0.is_ok(), t.0.is_ok(), w.0.is_ok(), h.0.is_ok()];
@@ -296,7 +327,11 @@ fn humidity_refused(number: u32, barometer: &Barometer, bulbs: &Bulbs, asked: &[
     row(
         &format!("humidity, refused {number}"),
         asked.len(),
-        || ask(asked, |m| a.humidity(m - back).map_or(0, |h| h.e)),
+        || {
+            ask(asked, |m| {
+                a.humidity(m - back).map_or(0, |h| of_humidity(h).0)
+            })
+        },
         || ask(asked, |m| b.humidity(m - back).map_or(0, |h| h.e)),
     );
 }
@@ -308,19 +343,19 @@ fn questions() {
     row(
         "pressure",
         n,
-        || ask(&asked, |m| a.pressure(m).unwrap_or(0)),
+        || ask(&asked, |m| a.pressure(m).map_or(0, of_pressure)),
         || ask(&asked, |m| b.pressure(m).unwrap_or(0)),
     );
     row(
         "tendency",
         n,
-        || ask(&asked, |m| a.tendency(m).map_or(0, |t| t.change + t.absent)),
+        || ask(&asked, |m| a.tendency(m).map_or(0, |t| sum(of_tendency(t)))),
         || ask(&asked, |m| b.tendency(m).map_or(0, |t| t.change + t.absent)),
     );
     row(
         "wind",
         n,
-        || ask(&asked, |m| a.wind(m).map_or(0, |w| w.speed + w.direction)),
+        || ask(&asked, |m| a.wind(m).map_or(0, |w| sum(of_wind(w)))),
         || ask(&asked, |m| b.wind(m).map_or(0, |w| w.speed + w.direction)),
     );
     for (name, bulbs) in [
@@ -334,7 +369,10 @@ fn questions() {
             n,
             || {
                 ask(&asked, |m| {
-                    a.humidity(m).map_or(0, |h| h.e + h.relative + h.dew)
+                    a.humidity(m).map_or(0, |h| {
+                        let (e, relative, dew) = of_humidity(h);
+                        e + relative + dew
+                    })
                 })
             },
             || {
@@ -350,14 +388,14 @@ fn questions() {
     row(
         "pressure, refused 11",
         n,
-        || ask(&asked, |m| a.pressure(m - 300).unwrap_or(0)),
+        || ask(&asked, |m| a.pressure(m - 300).map_or(0, of_pressure)),
         || ask(&asked, |m| b.pressure(m - 300).unwrap_or(0)),
     );
     let (a, b) = kept(&MM_HG, &WATER, &asked);
     row(
         "pressure, from mm Hg",
         n,
-        || ask(&asked, |m| a.pressure(m).unwrap_or(0)),
+        || ask(&asked, |m| a.pressure(m).map_or(0, of_pressure)),
         || ask(&asked, |m| b.pressure(m).unwrap_or(0)),
     );
 }
@@ -370,7 +408,7 @@ fn times(mut call: impl FnMut() -> usize) -> u64 {
 
 fn files(count: usize) {
     let (mine, theirs) = inputs::records(count);
-    let (mut a, mut b) = ([0; proved::LONGEST_FILE], [0; proved::LONGEST_FILE]);
+    let (mut a, mut b) = ([0; proved::MAX_BYTES], [0; proved::MAX_BYTES]);
     let length = proved::write(&mine, &mut a).expect("the records are good");
     same(
         "write",
@@ -382,7 +420,7 @@ fn files(count: usize) {
     let mut room = [independent::Record::BLANK; independent::MOST_RECORDS];
     let read = independent::read(file, &mut room).map(|r| r.len()).ok();
     same("read", proved::read(file).map(|r| r.len()).ok(), read);
-    let mut text = [0; proved::LISTING_ROOM];
+    let mut text = [0; proved::LISTING_MAX_BYTES];
     let mut their_text = [0; listing::LONGEST_LISTING];
     let listed = listing::list(file, &mut their_text);
     let text_listed = proved::list(file, &mut text).expect("there is room");
@@ -419,7 +457,7 @@ fn files(count: usize) {
             })
         },
     );
-    let (mut a, mut b) = ([0; proved::LONGEST_FILE], [0; proved::LONGEST_FILE]);
+    let (mut a, mut b) = ([0; proved::MAX_BYTES], [0; proved::MAX_BYTES]);
     row(
         &format!("write, {count} records"),
         CALLS,
@@ -463,7 +501,7 @@ fn main() {
     }
     println!(
         "store, bytes: {} proved, {} plain",
-        8 * raw::WORDS,
+        8 * Store::WORDS,
         std::mem::size_of::<station::Store>()
     );
 }

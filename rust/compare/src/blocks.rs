@@ -9,6 +9,7 @@ use reference::station;
 use zhitomrak::raw;
 
 use crate::dial;
+use crate::library;
 use crate::pair::{
     hear_line, independent, message, my_entry, not_later, note_line, tenths, their_entry, Chosen,
     Noted,
@@ -47,40 +48,19 @@ fn noted(told: raw::Noted) -> Answer {
     }
 }
 
-/// The anemometer's certificate as C has it: the points that there is room for, and how many there are.
-fn anemometer(rates: &[(i32, i32)]) -> raw::Anemometer {
-    let mut told = raw::Anemometer {
-        count: rates.len() as u32,
-        ..Default::default()
-    };
-    for (to, &(rate, speed)) in told.points.iter_mut().zip(rates) {
-        *to = raw::AnemometerPoint { rate, speed };
-    }
-    told
-}
-
 /// Opens a store in the block, and gives the number that this came to.
-pub fn open(block: &mut [u64; raw::WORDS], chosen: &Chosen) -> u32 {
-    let mut points = [raw::Point::default(); raw::POINTS];
-    for (to, &(reading, correction)) in points.iter_mut().zip(&chosen.points) {
-        *to = raw::Point {
-            reading,
-            correction,
-        };
-    }
-    raw::open(
-        block,
-        raw::Settings {
-            unit: u32::from(chosen.mm_hg),
-            height: chosen.height,
-            difference: chosen.difference,
-            coefficient: chosen.coefficient,
-            psychrometer: chosen.psychrometer,
-            count: chosen.points.len() as u32,
-            points,
-            anemometer: anemometer(&chosen.rates),
-        },
-    )
+pub fn open(block: &mut raw::Block, chosen: &Chosen) -> u32 {
+    let settings = chosen.proved();
+    let told = raw::Settings {
+        unit: chosen.mm_hg.into(),
+        height: settings.height,
+        difference: settings.difference,
+        coefficient: settings.coefficient,
+        psychrometer: settings.psychrometer,
+        certificate: settings.certificate,
+        anemometer: settings.anemometer,
+    };
+    raw::open(block, &told)
 }
 
 /// What a question came to: figures, each of which fits 32 bits, or the refusal with its channel and minute.
@@ -93,7 +73,7 @@ fn asked(why: raw::Refusal, figures: [i64; 5]) -> Answer {
 }
 
 struct Both {
-    proved: Box<[u64; raw::WORDS]>,
+    proved: Box<raw::Block>,
     independent: station::Memory,
     told: String,
 }
@@ -101,7 +81,7 @@ struct Both {
 impl Both {
     fn new() -> Both {
         Both {
-            proved: Box::new([0; raw::WORDS]),
+            proved: Box::new([0; raw::STORE_WORDS]),
             independent: station::Memory::default(),
             told: String::new(),
         }
@@ -187,16 +167,35 @@ impl Both {
 
         let h = raw::humidity(&self.proved, minute);
         let figures = [
-            h.e.into(),
+            h.vapour_pressure.into(),
             h.saturation.into(),
             h.deficit.into(),
-            h.relative.into(),
-            h.dew.into(),
+            h.relative_humidity.into(),
+            h.dew_point.into(),
         ];
         let a = asked(h.refusal, figures);
         let b = store.and_then(|store| store.humidity(minute));
         let b = independent(b, |h| [h.e, h.saturation, h.deficit, h.relative, h.dew]);
         self.same(tally, kind, a, b, &was[..]);
+    }
+
+    /// The same, and what else a caller asks.
+    fn ask_all(&mut self, tally: &mut Tally, minute: u32) {
+        self.ask(tally, minute);
+        let was = self.proved.clone();
+        library::kept(tally, &self.proved, &self.independent, minute, &self.told);
+        library::recorded(tally, &self.proved, &self.independent, minute, &self.told);
+        library::settings_read(tally, &self.proved, &self.independent, &self.told);
+        let stays = self.proved[..] == was[..];
+        tally.same("blocks, left alone", false, &stays, &true, || {
+            self.told.clone()
+        });
+    }
+
+    fn hear_all(&mut self, tally: &mut Tally, bytes: &[u8]) {
+        self.told += &bytes.chunks(16).map(hear_line).collect::<String>();
+        let (block, memory) = (&mut self.proved, &mut self.independent);
+        library::heard_all(tally, block, memory, bytes, &self.told);
     }
 }
 
@@ -218,8 +217,8 @@ const RATES: usize = 22;
 const FIRST_RATE: usize = RATES + 1;
 
 /// The word of a minute in a channel's window.
-pub fn cell(channel: usize, minute: u32) -> usize {
-    FIRST_RATE + raw::ANEMOMETER_POINTS + 261 * channel + 5 + minute as usize % 256
+fn cell(channel: usize, minute: u32) -> usize {
+    FIRST_RATE + raw::ANEMOMETER_MAX_POINTS + 261 * channel + 5 + minute as usize % 256
 }
 
 /// Blocks whose word of a wet bulb was written over with any state in its second 16 bits: one that there is counts as if a message had
@@ -255,7 +254,7 @@ pub fn other_origin(tally: &mut Tally, r: &mut Random, rounds: u64) {
 /// first two neighbours, the lower first, that stand round the rate. None where there are none, or where it leaves channel 2's limits.
 fn speed_by(words: &[u64], turns: i64, seconds: i64) -> Option<i64> {
     let half = |word: u64| (word & 0xffff) as i64 - 32_768;
-    let count = words[0].min(raw::ANEMOMETER_POINTS as u64) as usize;
+    let count = words[0].min(raw::ANEMOMETER_MAX_POINTS as u64) as usize;
     let points: Vec<(i64, i64)> = words[1..=count]
         .iter()
         .map(|&word| (half(word) * seconds, half(word >> 16)))
@@ -273,14 +272,14 @@ fn speed_by(words: &[u64], turns: i64, seconds: i64) -> Option<i64> {
 
 /// Words of a certificate: rates that rise or that do not, with speeds within their limits, near them and far from them; how many
 /// points there are said to be is any number.
-fn rate_words(r: &mut Random) -> [u64; 1 + raw::ANEMOMETER_POINTS] {
+fn rate_words(r: &mut Random) -> [u64; 1 + raw::ANEMOMETER_MAX_POINTS] {
     let rising = r.once_in(2);
     let (most_rate, most_speed) = (
         r.pick(&[20, 200, 9_999, 32_767]),
         r.pick(&[750, 900, 32_767]),
     );
     let least_speed = r.pick(&[0, 0, -100, -32_768]);
-    let mut rates: Vec<i32> = (0..raw::ANEMOMETER_POINTS)
+    let mut rates: Vec<i32> = (0..raw::ANEMOMETER_MAX_POINTS)
         .map(|_| r.within(if rising { 0 } else { -most_rate }, most_rate))
         .collect();
     if rising {
@@ -317,7 +316,8 @@ pub fn other_anemometers(tally: &mut Tally, r: &mut Random, rounds: u64) {
         let open = still.number == 0;
         if open {
             both.proved[cell(3, minute)] |= u64::from(course) << 16;
-            both.proved[RATES..FIRST_RATE + raw::ANEMOMETER_POINTS].copy_from_slice(&rate_words(r));
+            both.proved[RATES..FIRST_RATE + raw::ANEMOMETER_MAX_POINTS]
+                .copy_from_slice(&rate_words(r));
         }
         let seen = course <= 360;
         if seen {
@@ -326,7 +326,7 @@ pub fn other_anemometers(tally: &mut Tally, r: &mut Random, rounds: u64) {
                 .independent
                 .hear(&tenths(3, minute, 100, course.into()));
         }
-        let rates: Vec<(i32, i32)> = both.proved[FIRST_RATE..][..raw::ANEMOMETER_POINTS]
+        let rates: Vec<(i32, i32)> = both.proved[FIRST_RATE..][..raw::ANEMOMETER_MAX_POINTS]
             .iter()
             .map(|&word| ((word & 0xffff) as i32 - 32_768, 0))
             .collect();
@@ -340,7 +340,7 @@ pub fn other_anemometers(tally: &mut Tally, r: &mut Random, rounds: u64) {
             seconds.clamp(1, 600),
         ];
         let turns = (entry[3] + 10_000 - entry[2]) % 10_000;
-        let words = both.proved[RATES..FIRST_RATE + raw::ANEMOMETER_POINTS].to_vec();
+        let words = both.proved[RATES..FIRST_RATE + raw::ANEMOMETER_MAX_POINTS].to_vec();
         let speed = speed_by(&words, turns.into(), entry[4].into());
         both.told += &format!(
             "course {course}, the anemometer's words {words:x?}\n{}",
@@ -413,6 +413,13 @@ pub fn compare(tally: &mut Tally, r: &mut Random, rounds: u64) {
                     }
                 }
                 3 => {
+                    let mut many = Vec::new();
+                    for channel in 0..6 {
+                        minute += r.below(2) as u32;
+                        many.extend(reading(r, channel, minute));
+                    }
+                    many.truncate(many.len() - r.below(18) as usize);
+                    both.hear_all(tally, &many);
                     let length = r.pick(&[0, 15, 16, 17]);
                     let wrong: Vec<u8> = (0..length).map(|_| r.next() as u8).collect();
                     both.hear(tally, &wrong);
@@ -429,7 +436,7 @@ pub fn compare(tally: &mut Tally, r: &mut Random, rounds: u64) {
                     };
                     both.note(tally, dial::entry(r, &rates, noted_for));
                 }
-                _ => both.ask(tally, r.pick(&[minute, minute, 0, 180, u32::MAX])),
+                _ => both.ask_all(tally, r.pick(&[minute, minute, 0, 180, u32::MAX])),
             }
         }
     }

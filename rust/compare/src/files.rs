@@ -2,10 +2,10 @@
 //! them by the proved side beside what stands there.
 
 use reference::{humidity, listing, pressure, vapour, watchfile as independent, wind};
+use zhitomrak::raw;
 use zhitomrak::watchfile as proved;
-use zhitomrak::{raw, Humidity, Tendency, Wind};
 
-use crate::pair::{independent_refusal, proved_refusal};
+use crate::pair::{independent_refusal, of_humidity, of_tendency, of_wind, proved_refusal};
 use crate::random::Random;
 use crate::tally::{Answer, Tally};
 
@@ -19,29 +19,16 @@ pub fn humidity_body(e: i32, saturation: i32, dew: i32) -> Body {
     (4, [e, saturation, saturation - e, relative, dew])
 }
 
-fn to_proved(&(minute, (kind, f)): &Record) -> proved::Record {
-    let body = match kind {
-        1 => proved::Body::Pressure(f[0]),
-        2 => proved::Body::Tendency(Tendency {
-            change: f[0],
-            absent: f[1],
-        }),
-        3 => proved::Body::Wind(Wind {
-            speed: f[0],
-            direction: f[1],
-        }),
-        _ => proved::Body::Humidity(Humidity {
-            e: f[0],
-            saturation: f[1],
-            deficit: f[2],
-            relative: f[3],
-            dew: f[4],
-        }),
+pub fn to_proved(&(minute, (kind, figures)): &Record) -> proved::Record {
+    let told = raw::Record {
+        kind: kind.into(),
+        minute,
+        figures,
     };
-    proved::Record::new(minute, body)
+    told.into()
 }
 
-fn to_independent(&(minute, (kind, f)): &Record) -> independent::Record {
+pub fn to_independent(&(minute, (kind, f)): &Record) -> independent::Record {
     let body = match kind {
         1 => independent::Body::Pressure(f[0]),
         2 => independent::Body::Tendency(pressure::Tendency {
@@ -64,13 +51,16 @@ fn to_independent(&(minute, (kind, f)): &Record) -> independent::Record {
 }
 
 fn from_proved(r: proved::Record) -> Record {
-    let body = match r.body() {
-        proved::Body::Pressure(p) => (1, [p, 0, 0, 0, 0]),
-        proved::Body::Tendency(t) => (2, [t.change, t.absent, 0, 0, 0]),
-        proved::Body::Wind(w) => (3, [w.speed, w.direction, 0, 0, 0]),
-        proved::Body::Humidity(h) => (4, [h.e, h.saturation, h.deficit, h.relative, h.dew]),
+    let told = raw::Record::from(r);
+    let figures = match r.body() {
+        Some(proved::Body::Pressure(p)) => [p.tenths() as i32, 0, 0, 0, 0],
+        Some(proved::Body::Tendency(t)) => of_tendency(t),
+        Some(proved::Body::Wind(w)) => of_wind(w),
+        Some(proved::Body::Humidity(h)) => of_humidity(h),
+        // where nothing stands all is 0
+        _ => told.figures,
     };
-    (r.minute(), body)
+    (r.minute(), (told.kind as u8, figures))
 }
 
 fn from_independent(r: &independent::Record) -> Record {
@@ -172,7 +162,7 @@ pub fn both_write(
 /// Both read a file: all its records, or the place.
 pub fn both_read(tally: &mut Tally, kind: &'static str, file: &[u8]) {
     let a: Result<Vec<Record>, Answer> = proved::read(file)
-        .map(|records| records.iter().map(from_proved).collect())
+        .map(|records| records.into_iter().map(from_proved).collect())
         .map_err(proved_refusal);
     let mut room = [independent::Record::BLANK; independent::MOST_RECORDS];
     let b: Result<Vec<Record>, Answer> = independent::read(file, &mut room)
@@ -180,10 +170,9 @@ pub fn both_read(tally: &mut Tally, kind: &'static str, file: &[u8]) {
         .map_err(independent_refusal);
     tally.same(kind, b.is_err(), &a, &b, || format!("read {}", hex(file)));
     for index in [0, 1, 6, 47] {
-        let a = from_proved(raw::record(file, index));
+        let a = from_proved(proved::record_at(file, index));
         let there = standing(file, index);
-        // where nothing stands all is 0, and no kind is shown as the last
-        let b = there.unwrap_or((0, (4, [0; 5])));
+        let b = there.unwrap_or((0, (0, [0; 5])));
         tally.same("files, single records", there.is_none(), &a, &b, || {
             format!("record {index} of {}", hex(file))
         });
@@ -195,9 +184,9 @@ pub fn both_read(tally: &mut Tally, kind: &'static str, file: &[u8]) {
 pub fn both_list(tally: &mut Tally, kind: &'static str, file: &[u8]) {
     let mut b = [0; listing::LONGEST_LISTING];
     let theirs = listing::list(file, &mut b);
-    for room in [proved::LISTING_ROOM, theirs, theirs - 1] {
+    for room in [proved::LISTING_MAX_BYTES, theirs, theirs - 1] {
         let input = || format!("list {} into {room} bytes", hex(file));
-        let mut a = [0xa5; proved::LISTING_ROOM];
+        let mut a = [0xa5; proved::LISTING_MAX_BYTES];
         let mut left = a;
         let told = if room < theirs {
             Answer::Refused(17, theirs, 0)
@@ -213,7 +202,7 @@ pub fn both_list(tally: &mut Tally, kind: &'static str, file: &[u8]) {
 }
 
 /// A body that keeps its rules, often at a limit.
-fn right_body(r: &mut Random) -> Body {
+pub fn right_body(r: &mut Random) -> Body {
     let value = |r: &mut Random, low: i32, high: i32| match r.below(4) {
         0 => low,
         1 => high,
@@ -244,7 +233,7 @@ fn right_body(r: &mut Random) -> Body {
 }
 
 /// Records that rise and keep their rules, as many as asked.
-fn right_records(r: &mut Random, count: usize) -> Vec<Record> {
+pub fn right_records(r: &mut Random, count: usize) -> Vec<Record> {
     let mut minute = r.pick(&[0, 180, 5000, 16_777_000]);
     let mut records = Vec::new();
     let mut last = (0, 0);
@@ -322,7 +311,7 @@ fn wrong_records(r: &mut Random, count: usize) -> Vec<Record> {
     records
 }
 
-fn some(r: &mut Random) -> usize {
+pub fn some(r: &mut Random) -> usize {
     match r.below(6) {
         0 => 0,
         1 => 48,

@@ -1,11 +1,11 @@
 //! Messages whose values are exact halves, of a tenth or of a degree: each one that a channel's limits reach, and some beyond them, with
-//! both signs, and the values next to it on either side. What is kept is read out of the block, since an answer can hide it.
+//! both signs, and the values next to it on either side. What is kept is asked for by its minute, since an answer can hide it.
 
 use reference::message::{receive, Reading};
 use reference::settings::Unit;
 use zhitomrak::raw;
 
-use crate::blocks::{self, cell};
+use crate::blocks;
 use crate::messages::limits;
 use crate::pair::{hear_line, independent_refusal, message, Chosen};
 use crate::tally::{Answer, Tally, To};
@@ -28,15 +28,17 @@ fn half_degrees() -> impl Iterator<Item = f32> {
     (0..=362).map(|n| n as f32 + 0.5)
 }
 
-/// The figures that the proved side keeps of a channel's minute: of a temperature the word holds 32768 more.
-fn kept(block: &[u64; raw::WORDS], channel: u8, minute: u32) -> Answer {
-    let word = block[cell(channel.into(), minute)];
-    let more = if matches!(channel, 1 | 4 | 5) {
-        32_768
-    } else {
-        0
-    };
-    Answer::Given([(word & 0xffff) as i32 - more, (word >> 16) as i32, 0, 0, 0])
+/// The figures that the proved side keeps of a channel's minute, as it tells them.
+fn kept(block: &raw::Block, channel: u8, minute: u32) -> Answer {
+    let told = raw::reading(block, channel.into(), minute);
+    match told.refusal.number {
+        0 => Answer::Given([told.first, told.second as i32, 0, 0, 0]),
+        number => Answer::Refused(
+            number,
+            told.refusal.channel as usize,
+            told.refusal.minute as usize,
+        ),
+    }
 }
 
 /// Those of the independent side.
@@ -51,14 +53,14 @@ fn keeps(reading: Reading) -> Answer {
 }
 
 struct Block {
-    words: Box<[u64; raw::WORDS]>,
+    words: Box<raw::Block>,
     unit: Unit,
     minute: u32,
 }
 
 impl Block {
     fn open(mm_hg: bool) -> Block {
-        let mut words = Box::new([0; raw::WORDS]);
+        let mut words = Box::new([0; raw::STORE_WORDS]);
         let number = blocks::open(&mut words, &Chosen::plain(mm_hg));
         assert_eq!(number, 0, "plain settings open");
         let unit = if mm_hg { Unit::MmHg } else { Unit::HPa };

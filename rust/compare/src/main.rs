@@ -9,6 +9,7 @@ mod files;
 mod halves;
 mod heights;
 mod humidity;
+mod library;
 mod messages;
 mod pair;
 mod random;
@@ -59,6 +60,8 @@ fn main() {
     humidity::pairs(&mut tally);
     files::compare(&mut tally, &mut r, 10_000 * times);
     files::damage(&mut tally, &mut r, 4 * times);
+    library::placing(&mut tally, &mut r, 4_000 * times);
+    library::sentences(&mut tally, &mut r, 20_000 * times);
     blocks::compare(&mut tally, &mut r, 1_000 * times);
     blocks::other_origin(&mut tally, &mut r, 1_000 * times);
     blocks::other_anemometers(&mut tally, &mut r, 2_000 * times);

@@ -2,7 +2,9 @@
 
 use reference::refusal::Refused as Independent;
 use reference::{anemometer, settings, station};
-use zhitomrak::{AnemometerPoint, Entry, Point, Refused, Settings, Store, Unit};
+use zhitomrak::{
+    AnemometerPoint, Entry, Humidity, Point, Refused, Settings, Store, Tendency, Unit, Wind,
+};
 
 use crate::random::Random;
 use crate::tally::{Answer, Tally, To};
@@ -52,6 +54,25 @@ impl Chosen {
         Chosen {
             rates: rates.to_vec(),
             ..Chosen::plain(false)
+        }
+    }
+
+    /// These settings as the proved side takes them.
+    pub fn proved(&self) -> Settings {
+        let certificate: Vec<Point> = self.points.iter().map(|&pair| pair.into()).collect();
+        let anemometer: Vec<AnemometerPoint> = self.rates.iter().map(|&pair| pair.into()).collect();
+        Settings {
+            unit: if self.mm_hg {
+                Unit::Millimetres
+            } else {
+                Unit::Hectopascals
+            },
+            height: self.height,
+            difference: self.difference,
+            coefficient: self.coefficient,
+            psychrometer: self.psychrometer,
+            certificate: (&certificate[..]).into(),
+            anemometer: (&anemometer[..]).into(),
         }
     }
 
@@ -131,6 +152,26 @@ pub fn independent_refusal(refused: Independent) -> Answer {
     Answer::Refused(u32::from(refused.number()), a, b)
 }
 
+/// The figures of answers, in the documents' order. Each fits 32 bits.
+pub fn of_tendency(t: Tendency) -> [i32; 5] {
+    [t.change.tenths() as i32, t.absent as i32, 0, 0, 0]
+}
+
+pub fn of_wind(w: Wind) -> [i32; 5] {
+    let (speed, direction) = (w.speed.tenths(), w.direction.degrees());
+    [speed as i32, direction as i32, 0, 0, 0]
+}
+
+pub fn of_humidity(h: Humidity) -> [i32; 5] {
+    [
+        h.vapour_pressure.hundredths() as i32,
+        h.saturation.hundredths() as i32,
+        h.deficit.hundredths() as i32,
+        h.relative_humidity as i32,
+        h.dew_point.tenths(),
+    ]
+}
+
 fn proved<T>(answer: Result<T, Refused>, figures: impl FnOnce(T) -> [i32; 5]) -> Answer {
     answer.map_or_else(proved_refusal, |a| Answer::Given(figures(a)))
 }
@@ -196,32 +237,7 @@ pub struct Pair {
 impl Pair {
     /// Opens both and compares what that came to: a pair, where both opened.
     pub fn open(tally: &mut Tally, chosen: &Chosen) -> Option<Pair> {
-        let certificate: Vec<Point> = chosen
-            .points
-            .iter()
-            .map(|&(reading, correction)| Point {
-                reading,
-                correction,
-            })
-            .collect();
-        let anemometer: Vec<AnemometerPoint> = chosen
-            .rates
-            .iter()
-            .map(|&(rate, speed)| AnemometerPoint { rate, speed })
-            .collect();
-        let a = Store::open(&Settings {
-            unit: if chosen.mm_hg {
-                Unit::Millimetres
-            } else {
-                Unit::Hectopascals
-            },
-            height: chosen.height,
-            difference: chosen.difference,
-            coefficient: chosen.coefficient,
-            psychrometer: chosen.psychrometer,
-            certificate: &certificate,
-            anemometer: &anemometer,
-        });
+        let a = Store::open(&chosen.proved());
         let b = chosen.independent(station::Store::open);
         let told = |err: Option<Answer>| err.unwrap_or(Answer::Given([0; 5]));
         tally.answers_to(
@@ -272,7 +288,9 @@ impl Pair {
     }
 
     pub fn pressure(&self, tally: &mut Tally, kind: &'static str, minute: u32) {
-        let a = proved(self.proved.pressure(minute), |p| [p, 0, 0, 0, 0]);
+        let a = proved(self.proved.pressure(minute), |p| {
+            [p.tenths() as i32, 0, 0, 0, 0]
+        });
         let b = independent(self.independent.pressure(minute), |p| [p, 0, 0, 0, 0]);
         tally.answers_to(To::Question, kind, a, b, || {
             self.script(format!("pressure {minute}"))
@@ -280,9 +298,7 @@ impl Pair {
     }
 
     pub fn tendency(&self, tally: &mut Tally, kind: &'static str, minute: u32) {
-        let a = proved(self.proved.tendency(minute), |t| {
-            [t.change, t.absent, 0, 0, 0]
-        });
+        let a = proved(self.proved.tendency(minute), of_tendency);
         let b = independent(self.independent.tendency(minute), |t| {
             [t.change, t.absent, 0, 0, 0]
         });
@@ -292,9 +308,7 @@ impl Pair {
     }
 
     pub fn wind(&self, tally: &mut Tally, kind: &'static str, minute: u32) {
-        let a = proved(self.proved.wind(minute), |w| {
-            [w.speed, w.direction, 0, 0, 0]
-        });
+        let a = proved(self.proved.wind(minute), of_wind);
         let b = independent(self.independent.wind(minute), |w| {
             [w.speed, w.direction, 0, 0, 0]
         });
@@ -304,9 +318,7 @@ impl Pair {
     }
 
     pub fn humidity(&self, tally: &mut Tally, kind: &'static str, minute: u32) {
-        let a = proved(self.proved.humidity(minute), |h| {
-            [h.e, h.saturation, h.deficit, h.relative, h.dew]
-        });
+        let a = proved(self.proved.humidity(minute), of_humidity);
         let b = independent(self.independent.humidity(minute), |h| {
             [h.e, h.saturation, h.deficit, h.relative, h.dew]
         });

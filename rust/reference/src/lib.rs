@@ -11,7 +11,8 @@
 //! The sine, saturation and dew point tables are worked out when they are first
 //! asked for, each entry from an interval that encloses the exact value and is
 //! narrow enough to leave one answer. [`station::Store::open`] does it, so no
-//! later call waits for them. Only [`console`] uses the heap.
+//! later call waits for them. Only [`console`], [`log`], [`sentence`] and
+//! [`station::Store::stretch`] use the heap.
 
 #![forbid(unsafe_code)]
 #![deny(missing_docs)]
@@ -20,10 +21,12 @@ pub mod anemometer;
 pub mod console;
 pub mod humidity;
 pub mod listing;
+pub mod log;
 pub mod message;
 pub mod pressure;
 pub mod refusal;
 pub mod rounding;
+pub mod sentence;
 pub mod settings;
 pub mod sine;
 pub mod station;

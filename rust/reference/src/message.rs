@@ -8,6 +8,9 @@ use crate::settings::Unit;
 /// The last minute there is: refusal 5 is a "minute above 16,777,215, sent or asked".
 pub const LAST_MINUTE: u32 = 16_777_215;
 
+/// "A message is 16 bytes."
+pub const LENGTH: usize = 16;
+
 /// Channel 0: "850.0 to 1100.0 hPa; 640.0 to 825.0 mm Hg", tenths.
 pub const fn barometer(unit: Unit) -> RangeInclusive<i32> {
     match unit {
@@ -68,6 +71,16 @@ impl BulbState {
             _ => return None,
         })
     }
+
+    /// The byte that says it.
+    #[inline]
+    pub const fn byte(self) -> u8 {
+        match self {
+            BulbState::Water => 0,
+            BulbState::Ice => 1,
+            BulbState::Unknown => 2,
+        }
+    }
 }
 
 /// Wet bulb as kept: "the state belongs to the wet bulb's reading and is kept with
@@ -112,7 +125,7 @@ pub struct Message {
 /// minute (4), first value (4), second value (4)."
 #[inline]
 pub fn receive(bytes: &[u8], unit: Unit) -> Result<Message, Refused> {
-    let Ok(bytes) = <&[u8; 16]>::try_from(bytes) else {
+    let Ok(bytes) = <&[u8; LENGTH]>::try_from(bytes) else {
         return Err(Refused::MessageLength);
     };
     let [channel, state, ..] = *bytes;

@@ -77,14 +77,17 @@ pub enum Refused {
     /// 25: the anemometer's certificate "breaks its rules, or its speeds leave channel
     /// 2's limits", "tested at opening after 10".
     Anemometer,
+    /// 254, which the documents do not have: a file has no record of that minute and
+    /// kind to take out.
+    NoRecord,
     /// 255, which the documents do not have: memory that was never opened is
     /// asked or told something.
     NoStore,
 }
 
 impl Refused {
-    /// The number that the documents give this refusal; 255 for the one that they
-    /// do not have.
+    /// The number that the documents give this refusal; 254 and 255 for the two that
+    /// they do not have.
     pub const fn number(self) -> u8 {
         match self {
             Refused::MessageLength => 1,
@@ -112,6 +115,7 @@ impl Refused {
             Refused::Dial => 23,
             Refused::Rate => 24,
             Refused::Anemometer => 25,
+            Refused::NoRecord => 254,
             Refused::NoStore => 255,
         }
     }
@@ -167,6 +171,7 @@ mod tests {
             (Refused::Dial, "refused 23"),
             (Refused::Rate, "refused 24"),
             (Refused::Anemometer, "refused 25"),
+            (Refused::NoRecord, "refused 254"),
             (Refused::NoStore, "refused 255"),
         ];
         for (refused, line) in lines {

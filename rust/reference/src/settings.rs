@@ -42,7 +42,7 @@ pub struct Point {
 
 /// Settings as a caller gives them, right or wrong: "whole numbers of the last
 /// place shown".
-#[derive(Clone, Copy, Debug)]
+#[derive(Clone, Copy, Debug, PartialEq, Eq)]
 pub struct Settings<'points> {
     /// Barometer unit.
     pub unit: Unit,
@@ -133,6 +133,19 @@ impl Instruments {
             certificate: Certificate::new(settings.certificate, settings.unit)?,
             anemometer: Anemometer::new(settings.anemometer)?,
         })
+    }
+
+    /// The settings that were tested, each certificate with its own points only.
+    pub fn settings(&self) -> Settings<'_> {
+        Settings {
+            unit: self.unit,
+            height: self.height,
+            difference: self.difference,
+            coefficient: self.coefficient,
+            psychrometer: self.psychrometer,
+            certificate: self.certificate.points(),
+            anemometer: self.anemometer.points(),
+        }
     }
 }
 

@@ -1,15 +1,56 @@
 //! What a ship calls: open a store, hear messages, note entries of the hand
-//! anemometer, ask the four questions.
+//! anemometer, ask the four questions, and ask what is kept.
 
 use crate::anemometer::{from_bow, Entry};
 use crate::humidity::{Humidity, Psychrometer};
 use crate::message::{self, ApparentWind, Reading, ShipMotion, WetBulb, LAST_MINUTE};
 use crate::pressure::{self, Tendency};
 use crate::refusal::Refused;
-use crate::settings::{Instruments, Settings};
+use crate::settings::{Instruments, Settings, Unit};
 use crate::store::{Window, THREE_HOURS};
 use crate::vapour::{vapour, Vapour};
 use crate::wind::{rose, Rose, Wind};
+
+/// One count for each number that a message can come to.
+pub const COUNTS: usize = 256;
+
+/// A reading as it is kept: its channel, and its figures as numbers.
+#[derive(Clone, Copy, Debug, PartialEq, Eq)]
+pub struct Kept {
+    /// The channel, 0 to 5.
+    pub channel: u32,
+    /// The unit of the first figure: 0 hPa, 1 mm Hg, 2 °C, 3 m/s, 4 knots.
+    pub unit: u32,
+    /// Tenths of that unit.
+    pub first: i32,
+    /// "Of channels 2 and 3 whole degrees, of channel 5 the state, else 0."
+    pub second: u32,
+}
+
+impl Kept {
+    /// A reading's figures, the barometer's in this unit.
+    fn new(reading: Reading, barometer: Unit) -> Kept {
+        const CELSIUS: u32 = 2;
+        let (channel, unit, first, second) = match reading {
+            Reading::Barometer(pressure) => match barometer {
+                Unit::HPa => (0, 0, pressure, 0),
+                Unit::MmHg => (0, 1, pressure, 0),
+            },
+            Reading::Wheelhouse(temperature) => (1, CELSIUS, temperature, 0),
+            // A direction is kept as 0 to 359.
+            Reading::ApparentWind(wind) => (2, 3, wind.speed, wind.from_bow as u32),
+            Reading::ShipMotion(ship) => (3, 4, ship.speed, ship.course as u32),
+            Reading::DryBulb(temperature) => (4, CELSIUS, temperature, 0),
+            Reading::WetBulb(wet) => (5, CELSIUS, wet.temperature, u32::from(wet.state.byte())),
+        };
+        Kept {
+            channel,
+            unit,
+            first: i32::from(first),
+            second,
+        }
+    }
+}
 
 /// The station's memory: its instruments and one window for each channel.
 /// "Channels share no window, clock or room."
@@ -43,6 +84,12 @@ impl Store {
         })
     }
 
+    /// "The settings that a store was opened with": "opening with them gives the same
+    /// empty store".
+    pub fn settings(&self) -> Settings<'_> {
+        self.instruments.settings()
+    }
+
     /// Keeps the message's reading, or the first of refusals 1 to 8 and 19 whose
     /// reason holds, and then nothing has changed.
     #[inline]
@@ -57,6 +104,14 @@ impl Store {
             Reading::DryBulb(value) => self.dry_bulb.accept(minute, value),
             Reading::WetBulb(value) => self.wet_bulb.accept(minute, value),
         }
+    }
+
+    /// "Cuts the bytes into messages of 16, hears each in order [..], and adds one to the
+    /// count of the number that it came to (a count at its largest stays)", 0 where it is
+    /// heard. "Bytes at the end that are too few for a message are heard too, and refused
+    /// 1."
+    pub fn hear_all(&mut self, bytes: &[u8], counts: &mut [u64; COUNTS]) {
+        count_all(bytes, counts, |message| self.hear(message));
     }
 
     /// Keeps the apparent wind of an entry, "a second way to feed channel 2", or the
@@ -136,6 +191,56 @@ impl Store {
         .humidity(self.vapour)
     }
 
+    /// The newest minute of a channel; or 2, channel above 5; 11, "nothing is heard of
+    /// it yet". No minute lacks a reading then: 11 tells the channel and minute 0.
+    pub fn newest(&self, channel: u32) -> Result<u32, Refused> {
+        let channel = known(channel)?;
+        let newest = match channel {
+            0 => self.barometer.newest(),
+            1 => self.wheelhouse.newest(),
+            2 => self.apparent_wind.newest(),
+            3 => self.ship_motion.newest(),
+            4 => self.dry_bulb.newest(),
+            _ => self.wet_bulb.newest(),
+        };
+        newest.ok_or(Refused::Absent { channel, minute: 0 })
+    }
+
+    /// "The reading of a channel's minute as it is kept; or 2, channel above 5; 5,
+    /// minute above 16777215; 11, there is none, or none any more."
+    pub fn reading(&self, channel: u32, minute: u32) -> Result<Kept, Refused> {
+        let channel = known(channel)?;
+        asked(minute)?;
+        self.kept(channel, minute)
+            .map(|reading| Kept::new(reading, self.instruments.unit))
+            .ok_or(Refused::Absent { channel, minute })
+    }
+
+    /// Which of so many minutes from the first on have a reading; or 2, channel above
+    /// 5. A minute that cannot be has none.
+    pub fn stretch(&self, channel: u32, first: u32, count: usize) -> Result<Vec<bool>, Refused> {
+        let channel = known(channel)?;
+        let heard = |after: usize| {
+            u32::try_from(after)
+                .ok()
+                .and_then(|after| first.checked_add(after))
+                .is_some_and(|minute| self.kept(channel, minute).is_some())
+        };
+        Ok((0..count).map(heard).collect())
+    }
+
+    /// What a channel from 0 to 5 keeps of a minute.
+    fn kept(&self, channel: u8, minute: u32) -> Option<Reading> {
+        match channel {
+            0 => self.barometer.at(minute).map(Reading::Barometer),
+            1 => self.wheelhouse.at(minute).map(Reading::Wheelhouse),
+            2 => self.apparent_wind.at(minute).map(Reading::ApparentWind),
+            3 => self.ship_motion.at(minute).map(Reading::ShipMotion),
+            4 => self.dry_bulb.at(minute).map(Reading::DryBulb),
+            _ => self.wet_bulb.at(minute).map(Reading::WetBulb),
+        }
+    }
+
     /// Barometer and wheelhouse temperature of a minute, or refusal 11.
     #[inline]
     fn barometer_and_wheelhouse(&self, minute: u32) -> Result<(i32, i32), Refused> {
@@ -177,6 +282,12 @@ impl Memory {
             .and_then(|store| store.hear(message))
     }
 
+    /// [`Store::hear_all`]; where none was opened, each message counts as 255, and so do
+    /// bytes at the end that are too few for one.
+    pub fn hear_all(&mut self, bytes: &[u8], counts: &mut [u64; COUNTS]) {
+        count_all(bytes, counts, |message| self.hear(message));
+    }
+
     /// What its store says to an entry; where none was opened, [`Refused::NoStore`]
     /// whatever the entry is.
     pub fn note(&mut self, entry: &Entry) -> Result<(), Refused> {
@@ -191,6 +302,49 @@ impl Memory {
     pub fn store(&self) -> Result<&Store, Refused> {
         self.store.as_ref().ok_or(Refused::NoStore)
     }
+
+    /// [`Store::settings`], or 255.
+    pub fn settings(&self) -> Result<Settings<'_>, Refused> {
+        self.store().map(Store::settings)
+    }
+
+    /// [`Store::newest`], and 255 before its refusals.
+    pub fn newest(&self, channel: u32) -> Result<u32, Refused> {
+        self.store()?.newest(channel)
+    }
+
+    /// [`Store::reading`], and 255 before its refusals.
+    pub fn reading(&self, channel: u32, minute: u32) -> Result<Kept, Refused> {
+        self.store()?.reading(channel, minute)
+    }
+
+    /// [`Store::stretch`], and 255 before its refusal.
+    pub fn stretch(&self, channel: u32, first: u32, count: usize) -> Result<Vec<bool>, Refused> {
+        self.store()?.stretch(channel, first, count)
+    }
+}
+
+/// Lets each message of 16 bytes be heard, and what is left behind the last, and
+/// counts what they came to.
+fn count_all(
+    bytes: &[u8],
+    counts: &mut [u64; COUNTS],
+    mut hear: impl FnMut(&[u8]) -> Result<(), Refused>,
+) {
+    for message in bytes.chunks(message::LENGTH) {
+        let number = hear(message).map_or_else(Refused::number, |()| 0);
+        let count = &mut counts[usize::from(number)];
+        *count = count.saturating_add(1);
+    }
+}
+
+/// A channel from 0 to 5, or refusal 2.
+#[inline]
+fn known(channel: u32) -> Result<u8, Refused> {
+    u8::try_from(channel)
+        .ok()
+        .filter(|channel| *channel <= 5)
+        .ok_or(Refused::UnknownChannel)
 }
 
 /// Refusal 5: a question or an entry about a minute that cannot be.

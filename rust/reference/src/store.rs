@@ -97,6 +97,12 @@ impl<T: Copy + Default> Window<T> {
         }
     }
 
+    /// The channel's newest minute, or nothing where it has heard nothing.
+    #[inline]
+    pub fn newest(&self) -> Option<u32> {
+        self.newest
+    }
+
     /// The minutes from the channel's newest to this one, 0 for its first; or refusal
     /// 8 or 19: "a message must be later than its channel's newest". The first message
     /// of a channel gets neither.
@@ -279,8 +285,10 @@ mod tests {
     fn minute_0_can_be_the_newest() {
         let mut window = Window::new();
         window.accept(0, 7i16).unwrap();
+        assert_eq!(window.newest(), Some(0));
         assert_eq!(window.accept(0, 8), Err(Refused::Repeated));
         assert_eq!(window.accept(1, 9), Ok(()));
+        assert_eq!(window.newest(), Some(1));
         assert_eq!(window.accept(0, 8), late(1));
         assert_eq!(window.at(0), Some(7));
     }

@@ -4,8 +4,8 @@
 
 use std::io::Write;
 
-use zhitomrak::watchfile::{self, Body, Record, LISTING_ROOM, LONGEST_FILE};
-use zhitomrak::{AnemometerPoint, Entry, Humidity, Point, Refused, Settings, Store, Unit};
+use zhitomrak::watchfile::{self, Body, Record, LISTING_MAX_BYTES, MAX_BYTES};
+use zhitomrak::{Entry, Humidity, Refused, Settings, Store, Unit};
 
 /// A message: channel, state, minute and binary32 values, little endian. The state is what is on the wet bulb: 0 water, 1 ice, 2
 /// unknown; on the other channels it is 0.
@@ -21,7 +21,10 @@ fn send(store: &mut Store, channel: u8, state: u8, minute: u32, first: f32, seco
         Err(Refused::Late { minutes }) => {
             println!("channel {channel}, minute {minute}: refused 19, {minutes} minutes late")
         }
-        Err(refused) => println!("channel {channel}, minute {minute}: {refused}"),
+        Err(refused) => println!(
+            "channel {channel}, minute {minute}: refused {}",
+            refused.number()
+        ),
     }
 }
 
@@ -36,14 +39,18 @@ fn note(store: &mut Store, entry: Entry) {
         Err(Refused::Late { minutes }) => {
             println!("entry, minute {of}: refused 19, {minutes} minutes late")
         }
-        Err(refused) => println!("entry, minute {of}: {refused}"),
+        Err(refused) => println!("entry, minute {of}: refused {}", refused.number()),
     }
 }
 
 fn say_humidity(of: &str, h: Humidity) {
     println!(
         "{of} {} {} {} {} {}",
-        h.e, h.saturation, h.deficit, h.relative, h.dew
+        h.vapour_pressure.hundredths(),
+        h.saturation.hundredths(),
+        h.deficit.hundredths(),
+        h.relative_humidity,
+        h.dew_point.tenths()
     );
 }
 
@@ -62,16 +69,6 @@ fn minute_passes(store: &mut Store, minute: u32) {
 }
 
 fn main() -> Result<(), Refused> {
-    let certificate = [
-        Point {
-            reading: 7300,
-            correction: -4,
-        },
-        Point {
-            reading: 7500,
-            correction: -8,
-        },
-    ];
     // table 1 of RD 52.04.651
     let anemometer = [
         (1, 13),
@@ -85,16 +82,15 @@ fn main() -> Result<(), Refused> {
         (9, 85),
         (10, 94),
         (20, 188),
-    ]
-    .map(|(rate, speed)| AnemometerPoint { rate, speed });
+    ];
     let mut settings = Settings {
         unit: Unit::Millimetres,
         height: 601,
         difference: -268, // the Caspian
         coefficient: 24,
         psychrometer: 662,
-        certificate: &certificate,
-        anemometer: &anemometer,
+        certificate: [(7300, -4), (7500, -8)].into(),
+        anemometer: anemometer.into(),
     };
     let told = |opening: &Result<Store, Refused>| {
         opening.as_ref().err().map_or(0, |refused| refused.number())
@@ -119,9 +115,17 @@ fn main() -> Result<(), Refused> {
     let tendency = store.tendency(230)?;
     let wind = store.wind(240)?;
     let humidity = store.humidity(240)?;
-    println!("pressure {pressure}");
-    println!("tendency {}, {} absent", tendency.change, tendency.absent);
-    println!("wind {} from {}", wind.speed, wind.direction);
+    println!("pressure {}", pressure.tenths());
+    println!(
+        "tendency {}, {} absent",
+        tendency.change.tenths(),
+        tendency.absent
+    );
+    println!(
+        "wind {} from {}",
+        wind.speed.tenths(),
+        wind.direction.degrees()
+    );
     say_humidity("humidity", humidity);
 
     send(&mut store, 0, 0, 241, 734.7, 0.0);
@@ -147,7 +151,11 @@ fn main() -> Result<(), Refused> {
     // the same minute again
     note(&mut store, entry);
     let by_hand = store.wind(242)?;
-    println!("wind by hand {} from {}", by_hand.speed, by_hand.direction);
+    println!(
+        "wind by hand {} from {}",
+        by_hand.speed.tenths(),
+        by_hand.direction.degrees()
+    );
 
     let records = [
         Record::new(230, Body::Tendency(tendency)),
@@ -155,7 +163,7 @@ fn main() -> Result<(), Refused> {
         Record::new(240, Body::Wind(wind)),
         Record::new(240, Body::Humidity(humidity)),
     ];
-    let mut file = [0; LONGEST_FILE];
+    let mut file = [0; MAX_BYTES];
     if let Err(Refused::TooShort { bytes }) = watchfile::write(&records, &mut file[..10]) {
         println!("write: refused 17, {bytes} bytes needed");
     }
@@ -166,18 +174,18 @@ fn main() -> Result<(), Refused> {
     println!(
         "read: {} records, the last of minute {}",
         read.len(),
-        read.iter().last().map_or(0, |record| record.minute())
+        read.iter().next_back().map_or(0, |record| record.minute())
     );
-    let mut room = [0; LISTING_ROOM];
+    let mut room = [0; LISTING_MAX_BYTES];
     let mut out = std::io::stdout();
     if let Err(Refused::TooShort { bytes }) = watchfile::list(&file[..length], &mut room[..10]) {
         println!("list: refused 17, {bytes} bytes needed");
         out.write_all(watchfile::list(&file[..length], &mut room[..bytes])?)
-            .unwrap();
+            .expect("standard output takes it");
     }
     // a damaged dew point
     file[length - 1] ^= 1;
     out.write_all(watchfile::list(&file[..length], &mut room)?)
-        .unwrap();
+        .expect("standard output takes it");
     Ok(())
 }

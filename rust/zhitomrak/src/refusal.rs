@@ -1,11 +1,13 @@
 //! The documents' numbered refusals, each with what it also returns, and the answer of a block that was never opened.
 
-use std::fmt;
+use core::fmt;
 
-use crate::raw;
+use crate::ffi;
+use crate::figures::say;
 
-/// Why something was refused. A refusal gives no figure.
-#[derive(Clone, Copy, Debug, PartialEq, Eq)]
+/// Why something was refused. A refusal gives no figure. As text it is a sentence: `the barometer has no reading at minute 820`.
+#[derive(Clone, Copy, Debug, PartialEq, Eq, Hash)]
+#[non_exhaustive]
 pub enum Refused {
     /// 1: a message that is not 16 bytes.
     NotSixteenBytes,
@@ -77,14 +79,21 @@ pub enum Refused {
     OutsideRates,
     /// 25, tested after 10: the hand anemometer's certificate breaks its rules.
     AnemometerCertificate,
-    /// 255, none of the documents' numbers: the block was never opened, so there is no store to hear or to ask. A
-    /// [`Store`](crate::Store) is opened where it is made and never answers this; the library itself does, of memory that no
-    /// opening made.
+    /// 254, none of the documents' numbers: there is no record of this minute and kind to take out.
+    NoRecord,
+    /// 255, none of the documents' numbers: the words were never opened, so there is no store to hear or to ask. A
+    /// [`Store`](crate::Store) that was opened never answers this; one made of other words does.
     NoStore,
+    /// A number that this crate does not know: the library that is linked is another than the one it was written for. It is none
+    /// of the refusals above.
+    Unknown {
+        /// The number that the library gave.
+        number: u32,
+    },
 }
 
 impl Refused {
-    /// The documents' number, or that of [`Refused::NoStore`].
+    /// The documents' number, or that of [`Refused::NoRecord`] and [`Refused::NoStore`], or the one that is not known.
     pub const fn number(self) -> u32 {
         match self {
             Refused::NotSixteenBytes => 1,
@@ -112,29 +121,40 @@ impl Refused {
             Refused::OutsideDial => 23,
             Refused::OutsideRates => 24,
             Refused::AnemometerCertificate => 25,
-            Refused::NoStore => raw::NO_STORE,
+            Refused::NoRecord => ffi::NO_RECORD,
+            Refused::NoStore => ffi::NO_STORE,
+            Refused::Unknown { number } => number,
+        }
+    }
+
+    /// What it also returns, in the order of the documents, and 0 where there is nothing.
+    const fn extras(self) -> (u64, u64) {
+        match self {
+            Refused::Late { minutes } => (minutes, 0),
+            Refused::MissingReading { channel, minute } => (channel as u64, minute as u64),
+            Refused::OutsideCertificate { minute } => (minute as u64, 0),
+            Refused::BreaksRules { index } => (index as u64, 0),
+            Refused::TooShort { bytes } => (bytes as u64, 0),
+            Refused::Broken { place } => (place as u64, 0),
+            _ => (0, 0),
         }
     }
 }
 
 impl fmt::Display for Refused {
     fn fmt(&self, line: &mut fmt::Formatter<'_>) -> fmt::Result {
-        write!(line, "refused {}", self.number())?;
-        match self {
-            Refused::Late { minutes } => write!(line, " {minutes}"),
-            Refused::MissingReading { channel, minute } => write!(line, " {channel} {minute}"),
-            Refused::OutsideCertificate { minute } => write!(line, " {minute}"),
-            Refused::BreaksRules { index } => write!(line, " {index}"),
-            Refused::TooShort { bytes } => write!(line, " {bytes}"),
-            Refused::Broken { place } => write!(line, " at {place}"),
-            _ => Ok(()),
-        }
+        let (first, second) = self.extras();
+        let number = self.number();
+        say(line, |sentence| {
+            ffi::say_refusal(number, first, second, sentence)
+        })
     }
 }
 
+#[cfg(feature = "std")]
 impl std::error::Error for Refused {}
 
-/// The refusal of this number that returns nothing else; of a number that is none, [`Refused::NoStore`].
+/// The refusal of this number that returns nothing else; any other number is [`Refused::Unknown`].
 #[inline]
 const fn bare(number: u32) -> Refused {
     match number {
@@ -157,7 +177,8 @@ const fn bare(number: u32) -> Refused {
         23 => Refused::OutsideDial,
         24 => Refused::OutsideRates,
         25 => Refused::AnemometerCertificate,
-        _ => Refused::NoStore,
+        ffi::NO_STORE => Refused::NoStore,
+        _ => Refused::Unknown { number },
     }
 }
 
@@ -172,7 +193,7 @@ pub(crate) fn opened(number: u32) -> Result<(), Refused> {
 
 /// What a hearing came to: numbers are 0 to 8, 19 and 255, by the contract.
 #[inline]
-pub(crate) fn heard(told: raw::Heard) -> Result<(), Refused> {
+pub(crate) fn heard(told: ffi::Heard) -> Result<(), Refused> {
     Err(match told.number {
         0 => return Ok(()),
         19 => Refused::Late { minutes: told.late },
@@ -182,8 +203,8 @@ pub(crate) fn heard(told: raw::Heard) -> Result<(), Refused> {
 
 /// What an entry came to: numbers are 0, 5, 7, 8, 11, 19, 23, 24 and 255, by the contract.
 #[inline]
-pub(crate) fn noted(told: raw::Noted) -> Result<(), Refused> {
-    let raw::Noted {
+pub(crate) fn noted(told: ffi::Noted) -> Result<(), Refused> {
+    let ffi::Noted {
         number,
         channel,
         minute,
@@ -199,8 +220,8 @@ pub(crate) fn noted(told: raw::Noted) -> Result<(), Refused> {
 
 /// What a question of this refusal came to: numbers are 0, 5, 7, 11 to 15, 20 to 22 and 255, by the contracts.
 #[inline]
-pub(crate) fn asked(why: raw::Refusal) -> Result<(), Refused> {
-    let raw::Refusal {
+pub(crate) fn asked(why: ffi::Refusal) -> Result<(), Refused> {
+    let ffi::Refusal {
         number,
         channel,
         minute,
@@ -213,23 +234,46 @@ pub(crate) fn asked(why: raw::Refusal) -> Result<(), Refused> {
     })
 }
 
+/// What placing a record, or taking one out, came to: numbers are 0, 16, 17, 18 and 254, by the contracts. The new file's length.
+#[inline]
+pub(crate) fn placed(told: ffi::Placed) -> Result<usize, Refused> {
+    Err(match told.number {
+        0 => return Ok(told.bytes),
+        16 => Refused::BreaksRules { index: told.index },
+        17 => Refused::TooShort { bytes: told.bytes },
+        18 => Refused::Broken { place: told.place },
+        ffi::NO_RECORD => Refused::NoRecord,
+        number => Refused::Unknown { number },
+    })
+}
+
+/// What laying an answer's record came to: a question's numbers, and 16 for a figure that does not fit its field.
+#[inline]
+pub(crate) fn recorded(why: ffi::Refusal) -> Result<(), Refused> {
+    match why.number {
+        16 => Err(Refused::BreaksRules { index: 0 }),
+        _ => asked(why),
+    }
+}
+
 #[cfg(test)]
 mod tests {
     use super::*;
+    use std::string::ToString;
 
     #[test]
     fn what_is_told_by_a_number_has_that_number() {
         let late = 60;
-        for number in (1..=8).chain([19, raw::NO_STORE]) {
-            let refused = heard(raw::Heard { number, late }).unwrap_err();
+        for number in (1..=8).chain([19, ffi::NO_STORE, 26, 1000]) {
+            let refused = heard(ffi::Heard { number, late }).unwrap_err();
             assert_eq!(refused.number(), number);
         }
         for number in [9, 10, 25] {
             assert_eq!(opened(number).unwrap_err().number(), number);
         }
         let (channel, minute) = (4, 220);
-        for number in [5, 7, 8, 11, 19, 23, 24, raw::NO_STORE] {
-            let told = raw::Noted {
+        for number in [5, 7, 8, 11, 19, 23, 24, ffi::NO_STORE] {
+            let told = ffi::Noted {
                 number,
                 channel,
                 minute,
@@ -237,42 +281,81 @@ mod tests {
             };
             assert_eq!(noted(told).unwrap_err().number(), number);
         }
-        for number in [5, 7]
-            .into_iter()
-            .chain(11..=15)
-            .chain(20..=22)
-            .chain([raw::NO_STORE])
-        {
-            let why = raw::Refusal {
+        for number in (1..=25).chain([ffi::NO_STORE, 26, 254, u32::MAX]) {
+            let why = ffi::Refusal {
                 number,
                 channel,
                 minute,
             };
             assert_eq!(asked(why).unwrap_err().number(), number);
+            assert_eq!(recorded(why).unwrap_err().number(), number);
+        }
+        for number in [16, 17, 18, ffi::NO_RECORD, 19] {
+            let told = ffi::Placed {
+                number,
+                index: 1,
+                place: 2,
+                bytes: 3,
+            };
+            assert_eq!(placed(told).unwrap_err().number(), number);
         }
     }
 
     #[test]
-    fn only_19_is_told_with_minutes() {
-        let line = |number, late| heard(raw::Heard { number, late }).unwrap_err().to_string();
-        assert_eq!(line(19, 60), "refused 19 60");
-        assert_eq!(line(19, u64::MAX), "refused 19 18446744073709551615");
-        assert_eq!(line(8, 0), "refused 8");
+    fn a_number_that_is_not_known_is_no_refusal() {
+        let late = 0;
+        for number in [26, 253, 1000, u32::MAX] {
+            let unknown = Err(Refused::Unknown { number });
+            assert_eq!(heard(ffi::Heard { number, late }), unknown);
+            assert_eq!(opened(number), unknown);
+            let why = ffi::Refusal {
+                number,
+                ..Default::default()
+            };
+            assert_eq!(asked(why), unknown);
+        }
     }
 
     #[test]
-    fn an_entry_is_told_with_minutes_or_with_channel_and_minute() {
-        let line = |number| {
-            let told = raw::Noted {
-                number,
-                channel: 3,
-                minute: 220,
-                late: 60,
-            };
-            noted(told).unwrap_err().to_string()
+    fn a_refusal_is_a_sentence() {
+        let missing = Refused::MissingReading {
+            channel: 0,
+            minute: 820,
         };
-        assert_eq!(line(11), "refused 11 3 220");
-        assert_eq!(line(19), "refused 19 60");
-        assert_eq!(line(24), "refused 24");
+        for (refused, sentence) in [
+            (missing, "the barometer has no reading at minute 820"),
+            (
+                Refused::Late { minutes: 1 },
+                "the minute is 1 minute earlier than the channel's newest",
+            ),
+            (
+                Refused::Late { minutes: u64::MAX },
+                "the minute is 18446744073709551615 minutes earlier than the channel's newest",
+            ),
+            (
+                Refused::OutsideCertificate { minute: 7 },
+                "the barometer at minute 7 is outside its certificate",
+            ),
+            (
+                Refused::BreaksRules { index: 3 },
+                "record 3 breaks the rules of the file, or is the 49th",
+            ),
+            (
+                Refused::TooShort { bytes: 54 },
+                "the buffer is too short: 54 bytes are needed",
+            ),
+            (
+                Refused::Broken { place: 41 },
+                "the file is broken at byte 41",
+            ),
+            (Refused::NoStore, "the store was never opened"),
+            (Refused::NoRecord, "there is no such record"),
+            (
+                Refused::Unknown { number: 77 },
+                "no refusal has the number 77",
+            ),
+        ] {
+            assert_eq!(refused.to_string(), sentence);
+        }
     }
 }

@@ -42,8 +42,8 @@ loop-again c =
     let long : at .loop .i < length (at .loop .store) = omega arith in (
       omega arith,
       simp length-set (at .loop .inv .1),
-      λ k h. rw (c .setting-word .ensures) (more-written (settingWord g) (at .loop .store) (at .loop .i) long (at .loop .inv .2) k h),
-      less-left (settingWord g) (at .loop .store) (at .loop .i) (c .setting-word .result) (at .loop .inv .3),
+      λ k h. rw (c .setting-word .ensures) (more-written 0 (settingWord g) (at .loop .store) (at .loop .i) long (at .loop .inv .2) k h),
+      less-left (at .loop .store) (at .loop .i) (c .setting-word .result) (at .loop .inv .3),
     )
 
 returns : tie.Need-returns Inv-loop μ-loop

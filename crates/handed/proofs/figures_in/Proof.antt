@@ -9,40 +9,40 @@ shared-slice-read-t3 c = search needs
 shared-slice-read-t5 : tie.Need-shared-slice-read-t5
 shared-slice-read-t5 c = search needs
 
-shared-slice-read-figure-in : tie.Need-shared-slice-read-figure-in
-shared-slice-read-figure-in c = search needs
+shared-slice-read-signed-word : tie.Need-shared-slice-read-signed-word
+shared-slice-read-signed-word c = search needs
 
-figure-in-requires : tie.Need-figure-in-requires
-figure-in-requires c κs = search needs
+signed-word-requires : tie.Need-signed-word-requires
+signed-word-requires c κs = search needs
 
-shared-slice-read-figure-in-2 : tie.Need-shared-slice-read-figure-in-2
-shared-slice-read-figure-in-2 c = search needs
+shared-slice-read-signed-word-2 : tie.Need-shared-slice-read-signed-word-2
+shared-slice-read-signed-word-2 c = search needs
 
-figure-in-requires-2 : tie.Need-figure-in-requires-2
-figure-in-requires-2 c κs = search needs
+signed-word-requires-2 : tie.Need-signed-word-requires-2
+signed-word-requires-2 c κs = search needs
 
-shared-slice-read-figure-in-3 : tie.Need-shared-slice-read-figure-in-3
-shared-slice-read-figure-in-3 c = search needs
+shared-slice-read-signed-word-3 : tie.Need-shared-slice-read-signed-word-3
+shared-slice-read-signed-word-3 c = search needs
 
-figure-in-requires-3 : tie.Need-figure-in-requires-3
-figure-in-requires-3 c κs = search needs
+signed-word-requires-3 : tie.Need-signed-word-requires-3
+signed-word-requires-3 c κs = search needs
 
-shared-slice-read-figure-in-4 : tie.Need-shared-slice-read-figure-in-4
-shared-slice-read-figure-in-4 c = search needs
+shared-slice-read-signed-word-4 : tie.Need-shared-slice-read-signed-word-4
+shared-slice-read-signed-word-4 c = search needs
 
-figure-in-requires-4 : tie.Need-figure-in-requires-4
-figure-in-requires-4 c κs = search needs
+signed-word-requires-4 : tie.Need-signed-word-requires-4
+signed-word-requires-4 c κs = search needs
 
-shared-slice-read-figure-in-5 : tie.Need-shared-slice-read-figure-in-5
-shared-slice-read-figure-in-5 c = search needs
+shared-slice-read-signed-word-5 : tie.Need-shared-slice-read-signed-word-5
+shared-slice-read-signed-word-5 c = search needs
 
-figure-in-requires-5 : tie.Need-figure-in-requires-5
-figure-in-requires-5 c κs = search needs
+signed-word-requires-5 : tie.Need-signed-word-requires-5
+signed-word-requires-5 c κs = search needs
 
 returns : tie.Need-returns
 returns c =
     let at = c .before .before .before .before in
-    rw (c .figure-in5 .ensures, c .before .before .figure-in4 .ensures, at .figure-in3 .ensures, at .before .before .figure-in2 .ensures, at .before .before .before .before .figure-in .ensures)
+    rw (c .signed-word5 .ensures, c .before .before .signed-word4 .ensures, at .signed-word3 .ensures, at .before .before .signed-word2 .ensures, at .before .before .before .before .signed-word .ensures)
 
 pub figures-in-spec : {M : Type 1} → statement M
 figures-in-spec =
@@ -50,14 +50,14 @@ figures-in-spec =
     (tie.spec
     shared-slice-read-t3
     shared-slice-read-t5
-    shared-slice-read-figure-in
-    figure-in-requires
-    shared-slice-read-figure-in-2
-    figure-in-requires-2
-    shared-slice-read-figure-in-3
-    figure-in-requires-3
-    shared-slice-read-figure-in-4
-    figure-in-requires-4
-    shared-slice-read-figure-in-5
-    figure-in-requires-5
+    shared-slice-read-signed-word
+    signed-word-requires
+    shared-slice-read-signed-word-2
+    signed-word-requires-2
+    shared-slice-read-signed-word-3
+    signed-word-requires-3
+    shared-slice-read-signed-word-4
+    signed-word-requires-4
+    shared-slice-read-signed-word-5
+    signed-word-requires-5
     returns)

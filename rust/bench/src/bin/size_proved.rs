@@ -3,30 +3,19 @@
 use std::io::{Read, Write};
 
 use zhitomrak::watchfile::{self, Body, Record};
-use zhitomrak::{AnemometerPoint, Entry, Point, Settings, Store, Unit};
+use zhitomrak::{Entry, Settings, Store, Unit};
 
 fn main() {
     let mut input = Vec::new();
     std::io::stdin().read_to_end(&mut input).unwrap();
-    let certificate = [
-        Point {
-            reading: 8500,
-            correction: 0,
-        },
-        Point {
-            reading: 11000,
-            correction: 0,
-        },
-    ];
-    let anemometer = [(1, 13), (20, 188)].map(|(rate, speed)| AnemometerPoint { rate, speed });
     let settings = Settings {
         unit: Unit::Hectopascals,
         height: 0,
         difference: 0,
         coefficient: 0,
         psychrometer: 662,
-        certificate: &certificate,
-        anemometer: &anemometer,
+        certificate: [(8500, 0), (11000, 0)].into(),
+        anemometer: [(1, 13), (20, 188)].into(),
     };
     let Ok(mut store) = Store::open(&settings) else {
         return;
@@ -54,10 +43,10 @@ fn main() {
     if let Ok(h) = store.humidity(heard) {
         keep(Body::Humidity(h));
     }
-    let mut file = [0; watchfile::LONGEST_FILE];
+    let mut file = [0; watchfile::MAX_BYTES];
     let length = watchfile::write(&records, &mut file).unwrap_or(0);
     let read = watchfile::read(&file[..length]).map_or(0, |r| r.len() as u8);
-    let mut room = [0; watchfile::LISTING_ROOM];
+    let mut room = [0; watchfile::LISTING_MAX_BYTES];
     let text = watchfile::list(&file[..length], &mut room).unwrap_or(b"");
     std::io::stdout().write_all(text).unwrap();
     std::io::stdout().write_all(&[read, noted]).unwrap();

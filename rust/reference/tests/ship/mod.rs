@@ -27,6 +27,29 @@ pub fn wet_bulb(minute: u32, state: u8, value: f32) -> Vec<u8> {
     bytes
 }
 
+/// Settings in hPa whose corrections are all 0.
+pub fn plain_settings() -> Settings<'static> {
+    const NONE: [Point; 2] = [
+        Point {
+            reading: 8500,
+            correction: 0,
+        },
+        Point {
+            reading: 11000,
+            correction: 0,
+        },
+    ];
+    Settings {
+        unit: Unit::HPa,
+        height: 0,
+        difference: 0,
+        coefficient: 0,
+        psychrometer: USUAL_PSYCHROMETER,
+        certificate: &NONE,
+        anemometer: &[],
+    }
+}
+
 impl Ship {
     pub fn open(
         unit: Unit,

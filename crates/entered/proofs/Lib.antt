@@ -1,0 +1,2 @@
+pub mod EnteredLaws
+pub mod SingleAnswers

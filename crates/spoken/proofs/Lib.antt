@@ -1,0 +1,4 @@
+pub mod FigureLaws
+pub mod SingleAnswers
+pub mod Worked
+pub mod FitLaws

@@ -1,0 +1,3 @@
+pub mod Figures
+pub mod Sentences
+pub mod Refusals
