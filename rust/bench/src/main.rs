@@ -4,6 +4,7 @@
 //! usage: bench [GAP...]
 //! With gaps, hearing alone is measured, a message every so many minutes.
 
+mod besides;
 mod inputs;
 
 use std::hint::black_box;
@@ -499,6 +500,7 @@ fn main() {
     for count in [0, 1, 4, 16, 48] {
         files(count);
     }
+    besides::measure(&sent);
     println!(
         "store, bytes: {} proved, {} plain",
         8 * Store::WORDS,

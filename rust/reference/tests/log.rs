@@ -1,45 +1,11 @@
 //! A watch file in a buffer: records put in their places, and taken out.
 
-use reference::humidity::Humidity;
+mod records;
+
+use records::{humidity, pressure, tendency, wind};
 use reference::log::{place, take_out};
-use reference::pressure::Tendency;
 use reference::refusal::Refused;
-use reference::watchfile::{read, write, Body, Record, MOST_RECORDS};
-use reference::wind::Wind;
-
-fn pressure(minute: u32, tenths: i32) -> Record {
-    Record {
-        minute,
-        body: Body::Pressure(tenths),
-    }
-}
-
-fn tendency(minute: u32, change: i32, absent: i32) -> Record {
-    Record {
-        minute,
-        body: Body::Tendency(Tendency { change, absent }),
-    }
-}
-
-fn wind(minute: u32, speed: i32, direction: i32) -> Record {
-    Record {
-        minute,
-        body: Body::Wind(Wind { speed, direction }),
-    }
-}
-
-fn humidity(minute: u32, [e, saturation, deficit, relative, dew]: [i32; 5]) -> Record {
-    Record {
-        minute,
-        body: Body::Humidity(Humidity {
-            e,
-            saturation,
-            deficit,
-            relative,
-            dew,
-        }),
-    }
-}
+use reference::watchfile::{read, write, Record, MOST_RECORDS};
 
 /// The humidity of document 01: dry 20.0, wet 15.0.
 const MOIST: [i32; 5] = [1366, 2335, 969, 59, 116];

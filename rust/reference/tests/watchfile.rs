@@ -1,45 +1,11 @@
 //! The watch file: what is read, where it is broken, what is written.
 
-use reference::humidity::Humidity;
-use reference::pressure::Tendency;
+mod records;
+
+use records::{humidity, pressure, tendency, wind};
 use reference::refusal::Refused;
 use reference::vapour::dew_point;
-use reference::watchfile::{read, write, Body, Record, LONGEST_FILE, MOST_RECORDS};
-use reference::wind::Wind;
-
-fn pressure(minute: u32, tenths: i32) -> Record {
-    Record {
-        minute,
-        body: Body::Pressure(tenths),
-    }
-}
-
-fn tendency(minute: u32, change: i32, absent: i32) -> Record {
-    Record {
-        minute,
-        body: Body::Tendency(Tendency { change, absent }),
-    }
-}
-
-fn wind(minute: u32, speed: i32, direction: i32) -> Record {
-    Record {
-        minute,
-        body: Body::Wind(Wind { speed, direction }),
-    }
-}
-
-fn humidity(minute: u32, [e, saturation, deficit, relative, dew]: [i32; 5]) -> Record {
-    Record {
-        minute,
-        body: Body::Humidity(Humidity {
-            e,
-            saturation,
-            deficit,
-            relative,
-            dew,
-        }),
-    }
-}
+use reference::watchfile::{read, write, Record, LONGEST_FILE, MOST_RECORDS};
 
 /// The bytes of the file, with some written over.
 fn file(records: &[Record], changes: &[(usize, u8)]) -> Vec<u8> {

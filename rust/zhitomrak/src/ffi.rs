@@ -367,7 +367,7 @@ pub fn write(buffer: &mut [u8], records: &[Record]) -> Written {
 
 // The records of the crate's own type are this one's, and nothing beside it (`repr(transparent)`).
 #[inline]
-pub fn told(records: &[crate::watchfile::Record]) -> &[Record] {
+pub(crate) fn told(records: &[crate::watchfile::Record]) -> &[Record] {
     unsafe { core::slice::from_raw_parts(records.as_ptr().cast(), records.len()) }
 }
 
