@@ -4,6 +4,7 @@ DESTDIR =
 
 LIBRARY = target/staticlib/libzhitomrak.a
 LISTER = target/bin/lister
+DOCS = docs/REFUSALS.md docs/FORMAT.md CHANGELOG.md LICENSE
 TO = $(DESTDIR)$(PREFIX)
 
 .PHONY: all library lister install uninstall
@@ -28,7 +29,8 @@ lister:
 
 # The version is the header's.
 install: all
-	install -d "$(TO)/bin" "$(TO)/include" "$(TO)/lib/pkgconfig" "$(TO)/share/man/man1" "$(TO)/share/man/man3"
+	install -d "$(TO)/bin" "$(TO)/include" "$(TO)/lib/pkgconfig" "$(TO)/share/man/man1" "$(TO)/share/man/man3" \
+		"$(TO)/share/doc/zhitomrak"
 	install -m 755 $(LISTER) "$(TO)/bin/zhitomrak-lister"
 	install -m 644 include/zhitomrak.h "$(TO)/include/zhitomrak.h"
 	install -m 644 $(LIBRARY) "$(TO)/lib/libzhitomrak.a"
@@ -37,7 +39,9 @@ install: all
 	chmod 644 "$(TO)/lib/pkgconfig/zhitomrak.pc"
 	install -m 644 man/zhitomrak-lister.1 "$(TO)/share/man/man1/zhitomrak-lister.1"
 	install -m 644 man/zhitomrak.3 "$(TO)/share/man/man3/zhitomrak.3"
+	install -m 644 $(DOCS) "$(TO)/share/doc/zhitomrak"
 
 uninstall:
 	rm -f "$(TO)/bin/zhitomrak-lister" "$(TO)/include/zhitomrak.h" "$(TO)/lib/libzhitomrak.a" "$(TO)/lib/pkgconfig/zhitomrak.pc" \
 		"$(TO)/share/man/man1/zhitomrak-lister.1" "$(TO)/share/man/man3/zhitomrak.3"
+	rm -rf "$(TO)/share/doc/zhitomrak"

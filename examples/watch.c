@@ -9,35 +9,28 @@
 /* Hears a message, and says why where it is refused. Its first byte is the channel. */
 static void send(zhitomrak_store *store, uint32_t minute, zhitomrak_message message)
 {
+    zhitomrak_sentence why;
     zhitomrak_heard heard = zhitomrak_hear_message(store, message);
-    if (heard.number == ZHITOMRAK_REFUSED_LATE)
-        printf("channel %u, minute %" PRIu32 ": refused 19, %" PRIu64 " minutes late\n", message.bytes[0], minute, heard.late);
-    else if (heard.number)
-        printf("channel %u, minute %" PRIu32 ": refused %" PRIu32 "\n", message.bytes[0], minute, heard.number);
+    zhitomrak_say_heard(heard, &why);
+    if (heard.number)
+        printf("channel %u, minute %" PRIu32 ": %s\n", message.bytes[0], minute, why.bytes);
 }
 
 /* The wind by the hand anemometer. It needs the course of its minute, from channel 3. */
 static void note(zhitomrak_store *store, zhitomrak_entry entry)
 {
+    zhitomrak_sentence why;
     zhitomrak_noted noted = zhitomrak_note(store, entry);
-    if (noted.number == ZHITOMRAK_REFUSED_MISSING)
-        printf("entry, minute %" PRIu32 ": refused 11, channel %" PRIu32 ", minute %" PRIu32 "\n", entry.minute, noted.channel,
-               noted.minute);
-    else if (noted.number == ZHITOMRAK_REFUSED_LATE)
-        printf("entry, minute %" PRIu32 ": refused 19, %" PRIu64 " minutes late\n", entry.minute, noted.late);
-    else if (noted.number)
-        printf("entry, minute %" PRIu32 ": refused %" PRIu32 "\n", entry.minute, noted.number);
+    zhitomrak_say_noted(noted, &why);
+    if (noted.number)
+        printf("entry, minute %" PRIu32 ": %s\n", entry.minute, why.bytes);
 }
 
-static void say_refusal(zhitomrak_refusal why)
+static void open(zhitomrak_store *store, const zhitomrak_settings *settings)
 {
-    printf("refused %" PRIu32 ", channel %" PRIu32 ", minute %" PRIu32 "\n", why.number, why.channel, why.minute);
-}
-
-static void say_humidity(const char *of, zhitomrak_humidity_answer h)
-{
-    printf("%s %" PRIu32 " %" PRIu32 " %" PRIu32 " %" PRIu32 " %" PRId32 "\n", of, h.vapour_pressure, h.saturation, h.deficit,
-           h.relative_humidity, h.dew_point);
+    zhitomrak_sentence said;
+    zhitomrak_say_refusal(zhitomrak_open(store, settings), 0, 0, &said);
+    printf("open: %s\n", said.bytes);
 }
 
 /* The instruments of one minute. */
@@ -100,35 +93,32 @@ int main(void)
                        .points = {{1, 13}, {2, 22}, {3, 31}, {4, 40}, {5, 49}, {6, 58}, {7, 67}, {8, 76}, {9, 85}, {10, 94}, {20, 188}}},
     };
     settings.height = 601;
-    printf("open: %" PRIu32 "\n", zhitomrak_open(&store, &settings));
+    open(&store, &settings);
     settings.height = 101;
-    printf("open: %" PRIu32 "\n", zhitomrak_open(&store, &settings));
+    open(&store, &settings);
     for (uint32_t minute = 0; minute <= 240; minute++)
         minute_passes(&store, minute);
     send(&store, 240, zhitomrak_message_barometer(240, 741.9f)); /* the newest minute again */
     send(&store, 180, zhitomrak_message_dry_bulb(180, 20.0f)); /* a clock that has gone back by an hour */
 
-    zhitomrak_pressure_answer missing = zhitomrak_pressure(&store, 70);
-    say_refusal(missing.refusal);
-    zhitomrak_pressure_answer pressure = zhitomrak_pressure(&store, 240);
-    zhitomrak_tendency_answer tendency = zhitomrak_tendency(&store, 230);
-    zhitomrak_wind_answer wind = zhitomrak_wind(&store, 240);
-    zhitomrak_humidity_answer humidity = zhitomrak_humidity(&store, 240);
-    if (pressure.refusal.number || tendency.refusal.number || wind.refusal.number || humidity.refusal.number)
-        return 1;
-    printf("pressure %" PRId64 "\n", pressure.pressure);
-    printf("tendency %" PRId64 ", %" PRIu64 " absent\n", tendency.change, tendency.absent);
-    printf("wind %" PRIu32 " from %" PRIu32 "\n", wind.speed, wind.direction);
-    say_humidity("humidity", humidity);
+    zhitomrak_sentence said;
+    zhitomrak_say_pressure(zhitomrak_pressure(&store, 70), &said);
+    printf("pressure: %s\n", said.bytes);
+    zhitomrak_say_pressure(zhitomrak_pressure(&store, 240), &said);
+    printf("pressure: %s\n", said.bytes);
+    zhitomrak_say_tendency(zhitomrak_tendency(&store, 230), &said);
+    printf("tendency: %s\n", said.bytes);
+    zhitomrak_say_wind(zhitomrak_wind(&store, 240), &said);
+    printf("wind: %s\n", said.bytes);
+    zhitomrak_say_humidity(zhitomrak_humidity(&store, 240), &said);
+    printf("humidity: %s\n", said.bytes);
 
     send(&store, 241, zhitomrak_message_barometer(241, 734.7f));
     send(&store, 241, zhitomrak_message_dry_bulb(241, -10.0f));
     send(&store, 241, zhitomrak_message_wet_bulb(241, -10.0f, 3)); /* there is no state 3 */
     send(&store, 241, zhitomrak_message_wet_bulb(241, -10.0f, ZHITOMRAK_STATE_ICE));
-    zhitomrak_humidity_answer iced = zhitomrak_humidity(&store, 241);
-    if (iced.refusal.number)
-        return 1;
-    say_humidity("humidity by an iced bulb", iced);
+    zhitomrak_say_humidity(zhitomrak_humidity(&store, 241), &said);
+    printf("humidity by an iced bulb: %s\n", said.bytes);
 
     /* 140 divisions in a minute, past 9999, by the compass from 300 degrees: 2.5 m/s, and 40 degrees from the bow */
     zhitomrak_entry entry = {.minute = 242, .direction = 300, .first = 9940, .second = 80, .seconds = 60};
@@ -136,17 +126,15 @@ int main(void)
     send(&store, 242, zhitomrak_message_ship_motion(242, 12.5f, 260.0f));
     note(&store, entry);
     note(&store, entry); /* the same minute again */
-    zhitomrak_wind_answer by_hand = zhitomrak_wind(&store, 242);
-    if (by_hand.refusal.number)
-        return 1;
-    printf("wind by hand %" PRIu32 " from %" PRIu32 "\n", by_hand.speed, by_hand.direction);
+    zhitomrak_say_wind(zhitomrak_wind(&store, 242), &said);
+    printf("wind by hand: %s\n", said.bytes);
 
     zhitomrak_record records[4];
     uint8_t file[ZHITOMRAK_FILE_MAX_BYTES];
     if (enter(&store, records))
         return 1;
-    zhitomrak_written short_of_room = zhitomrak_write(file, 10, records, 4);
-    printf("write: refused %" PRIu32 ", %zu bytes needed\n", short_of_room.number, short_of_room.bytes);
+    zhitomrak_say_written(zhitomrak_write(file, 10, records, 4), &said);
+    printf("write: %s\n", said.bytes);
     size_t size = keep(file, records);
     printf("written: %zu bytes\n", size);
 
@@ -156,8 +144,8 @@ int main(void)
     zhitomrak_record last = zhitomrak_record_at(file, size, read.count - 1);
     printf("read: %zu records, the last of minute %" PRIu32 "\n", read.count, last.minute);
     uint8_t text[10];
-    zhitomrak_listed no_room = zhitomrak_list(file, size, text, sizeof text);
-    printf("list: refused %" PRIu32 ", %zu bytes needed\n", no_room.number, no_room.bytes);
+    zhitomrak_say_listed(zhitomrak_list(file, size, text, sizeof text), &said);
+    printf("list: %s\n", said.bytes);
     list(file, size);
     file[size - 1] ^= 1; /* a damaged dew point */
     list(file, size);

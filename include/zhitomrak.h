@@ -238,7 +238,7 @@ typedef struct {
 
 /* Hears a message of instruments, 16 bytes: 0, and its reading is kept; or the first of 1 to 8 and 19 whose reason holds, and the
  * block stays as it was. 1, not 16 bytes; 2, channel above 5; 3, a byte that must be zero isn't; 4, the wet bulb's state is above 2;
- * 5, minute above 16777215; 6, infinite or not a number; 7, outside limits; 8, the minute is that of the channel's newest; 19, it is
+ * 5, minute above 16777215; 6, infinite or not a number; 7, outside limits; 8, the minute is that of the channel's newest reading; 19, it is
  * earlier, with the minutes between. A channel's first message gets neither 8 nor 19. Before all of them: ZHITOMRAK_NO_STORE, the
  * block was never opened, and stays as it was too. What is kept are tenths and whole degrees, of an exact half the even one, and
  * limits are those of what is kept. Byte 1 of a wet bulb's message is its state, which is kept with the reading: 0 water, 1 ice, 2
@@ -347,7 +347,7 @@ zhitomrak_humidity_answer zhitomrak_humidity(const zhitomrak_store *store, uint3
 
 typedef struct {
     uint32_t number; /* 0, 2 or 11 */
-    uint64_t minute; /* 0 beside a refusal */
+    uint64_t minute; /* 0 beside a refusal; at most 16777215, but of a block that no zhitomrak_open made */
 } zhitomrak_newest_answer;
 
 /* The newest minute of a channel; or 2, channel above 5; 11, nothing is heard of it yet. */
@@ -399,8 +399,9 @@ typedef struct {
     } of;
 } zhitomrak_record;
 
-/* The record that the answer to a question makes, by its kind and minute: number 0. Or the question's refusal; or 16, there is no such
- * kind (or a figure does not fit its field, which of a store that zhitomrak_open made does not happen); and the record stays as it was. */
+/* The record that the answer to a question makes, by its kind and minute: number 0. Or 16, there is no such kind; or the question's
+ * refusal (or 16, a figure does not fit its field, which of a store that zhitomrak_open made does not happen); and the record stays as
+ * it was. */
 zhitomrak_refusal zhitomrak_record_of(const zhitomrak_store *store, uint32_t kind, uint32_t minute, zhitomrak_record *record);
 
 typedef struct {
@@ -421,7 +422,7 @@ zhitomrak_record zhitomrak_record_at(const uint8_t *file, size_t length, size_t 
 typedef struct {
     uint32_t number; /* 0, 16 or 17 */
     size_t index;    /* of 16, else 0 */
-    size_t bytes;    /* of the file that was written, or needed where 17 */
+    size_t bytes;    /* of the file that was written, or needed where 17, else 0 */
 } zhitomrak_written;
 
 /* Writes records as a watch file at the start of the buffer, and leaves the bytes behind it. Or the first of these whose reason holds,
@@ -430,11 +431,13 @@ typedef struct {
  * lent as words of 32 bits, seven a record in the order of its fields; words that are too few for one more record are not looked at. */
 zhitomrak_written zhitomrak_write_words(uint8_t *buffer, size_t length, const uint32_t *records, size_t words);
 
-/* The same of `count` records. No more than the first 49 are looked at. */
+/* The same of `count` records, none of which need be there where that is 0. No more than the first 49 are looked at. */
 static inline zhitomrak_written zhitomrak_write(uint8_t *buffer, size_t length, const zhitomrak_record *records, size_t count)
 {
+    static const uint32_t none = 0;
     const size_t some = count < ZHITOMRAK_FILE_MAX_RECORDS + 1 ? count : ZHITOMRAK_FILE_MAX_RECORDS + 1;
-    return zhitomrak_write_words(buffer, length, &records->kind, some * (sizeof *records / sizeof records->kind));
+    const uint32_t *words = some == 0 ? &none : ZHITOMRAK_AS(const uint32_t *, ZHITOMRAK_AS(const void *, records));
+    return zhitomrak_write_words(buffer, length, words, some * (sizeof *records / sizeof *words));
 }
 
 typedef struct {
@@ -460,8 +463,8 @@ typedef struct {
     size_t bytes;    /* of the text that was put, or needed where 17 */
 } zhitomrak_listed;
 
-/* Lists a watch file: puts its text at the start of the lent bytes, and leaves those behind it. A broken file is listed too, as
- * document 01 says. Or 17, fewer bytes are lent than this listing has, with the bytes needed, and every byte stays. */
+/* Lists a watch file: puts its text at the start of the lent bytes, and leaves those behind it: `WT 1 2` with the number of records, and
+ * a line for each; of a broken file one line, `refused 18 at` and the place. Or 17, fewer bytes are lent than this listing has, with the bytes needed, and every byte stays. */
 zhitomrak_listed zhitomrak_list(const uint8_t *file, size_t length, uint8_t *text, size_t room);
 
 /* ---- what people read ---- */
@@ -473,7 +476,8 @@ typedef struct {
 
 /* Each puts a sentence and gives its length: the figures with sign, point and unit, or why there are none. `1005.7 hPa at sea level`;
  * `-0.1 hPa in three hours, 11 minutes without a reading`; `4.5 m/s from 166` and the degree sign, or `calm`; `the barometer has no
- * reading at minute 820`. */
+ * reading at minute 820`. A reading has the unit of its channel, the barometer's is mm Hg where its unit is not 0, and a wet bulb's state
+ * is unknown where it is neither 0 nor 1; one of a channel that is none is said as a temperature. */
 size_t zhitomrak_say_pressure(zhitomrak_pressure_answer answer, zhitomrak_sentence *sentence);
 size_t zhitomrak_say_tendency(zhitomrak_tendency_answer answer, zhitomrak_sentence *sentence);
 size_t zhitomrak_say_wind(zhitomrak_wind_answer answer, zhitomrak_sentence *sentence);
@@ -484,6 +488,47 @@ size_t zhitomrak_say_reading(zhitomrak_reading_answer answer, zhitomrak_sentence
  * index; 17 bytes; 18 a place; 19 minutes. What a number does not return is not looked at. */
 size_t zhitomrak_say_refusal(uint32_t number, uint64_t first, uint64_t second, zhitomrak_sentence *sentence);
 
+/* The same of what each call told; `nothing is refused` where its number is 0. */
+static inline size_t zhitomrak_say_heard(zhitomrak_heard told, zhitomrak_sentence *sentence)
+{
+    return zhitomrak_say_refusal(told.number, told.late, 0, sentence);
+}
+
+static inline size_t zhitomrak_say_noted(zhitomrak_noted told, zhitomrak_sentence *sentence)
+{
+    if (told.number == ZHITOMRAK_REFUSED_MISSING)
+        return zhitomrak_say_refusal(told.number, told.channel, told.minute, sentence);
+    return zhitomrak_say_refusal(told.number, told.late, 0, sentence);
+}
+
+static inline size_t zhitomrak_say_asked(zhitomrak_refusal told, zhitomrak_sentence *sentence)
+{
+    if (told.number == ZHITOMRAK_REFUSED_MISSING)
+        return zhitomrak_say_refusal(told.number, told.channel, told.minute, sentence);
+    return zhitomrak_say_refusal(told.number, told.minute, 0, sentence);
+}
+
+static inline size_t zhitomrak_say_read(zhitomrak_file told, zhitomrak_sentence *sentence)
+{
+    return zhitomrak_say_refusal(told.number, told.place, 0, sentence);
+}
+
+static inline size_t zhitomrak_say_written(zhitomrak_written told, zhitomrak_sentence *sentence)
+{
+    return zhitomrak_say_refusal(told.number, told.number == ZHITOMRAK_REFUSED_RECORD ? told.index : told.bytes, 0, sentence);
+}
+
+/* Index, place and bytes are 0 but for the one that the number returns. */
+static inline size_t zhitomrak_say_placed(zhitomrak_placed told, zhitomrak_sentence *sentence)
+{
+    return zhitomrak_say_refusal(told.number, told.index + told.place + told.bytes, 0, sentence);
+}
+
+static inline size_t zhitomrak_say_listed(zhitomrak_listed told, zhitomrak_sentence *sentence)
+{
+    return zhitomrak_say_refusal(told.number, told.bytes, 0, sentence);
+}
+
 /* What a number says, without what it also returns; null where no refusal has it. */
 static inline const char *zhitomrak_refusal_text(uint32_t number)
 {
@@ -493,9 +538,9 @@ static inline const char *zhitomrak_refusal_text(uint32_t number)
     case 3u: return "a byte of the message that must be zero is not";
     case 4u: return "the state of the wet bulb is above 2";
     case 5u: return "the minute is above 16777215";
-    case 6u: return "the value is infinite or not a number";
-    case 7u: return "the value is outside its limits";
-    case 8u: return "the minute is that of the channel's newest";
+    case 6u: return "a value is infinite or not a number";
+    case 7u: return "a value is outside its limits";
+    case 8u: return "the minute is that of the channel's newest reading";
     case 9u: return "a setting is outside its limits";
     case 10u: return "the barometer's certificate breaks its rules";
     case 11u: return "a reading is absent or no longer kept";
@@ -503,10 +548,10 @@ static inline const char *zhitomrak_refusal_text(uint32_t number)
     case 13u: return "the wet bulb is above the dry bulb, with water on it";
     case 14u: return "there are no three hours before the minute";
     case 15u: return "the vapour pressure is below 0.19 hPa";
-    case 16u: return "a record breaks the rules of the file, or is the 49th";
+    case 16u: return "a record breaks the rules of the file, or is one too many";
     case 17u: return "the buffer is too short";
     case 18u: return "the file is broken";
-    case 19u: return "the minute is earlier than the channel's newest";
+    case 19u: return "the minute is earlier than the channel's newest reading";
     case 20u: return "the wet bulb is above 0.0 \302\260C, and not with water on it";
     case 21u: return "the wet bulb's state is unknown, and the dry bulb not within -9.9 to 0.0 \302\260C";
     case 22u: return "the vapour pressure is above saturation over water at the dry bulb";

@@ -155,9 +155,9 @@ static const struct {
     {3, "a byte of the message that must be zero is not", "a byte of the message that must be zero is not"},
     {4, "the state of the wet bulb is above 2", "the state of the wet bulb is above 2"},
     {5, "the minute is above 16777215", "the minute is above 16777215"},
-    {6, "the value is infinite or not a number", "the value is infinite or not a number"},
-    {7, "the value is outside its limits", "the value is outside its limits"},
-    {8, "the minute is that of the channel's newest", "the minute is that of the channel's newest"},
+    {6, "a value is infinite or not a number", "a value is infinite or not a number"},
+    {7, "a value is outside its limits", "a value is outside its limits"},
+    {8, "the minute is that of the channel's newest reading", "the minute is that of the channel's newest reading"},
     {9, "a setting is outside its limits", "a setting is outside its limits"},
     {10, "the barometer's certificate breaks its rules", "the barometer's certificate breaks its rules"},
     {11, "the ship's motion has no reading at minute 7", "a reading is absent or no longer kept"},
@@ -165,10 +165,10 @@ static const struct {
     {13, "the wet bulb is above the dry bulb, with water on it", "the wet bulb is above the dry bulb, with water on it"},
     {14, "there are no three hours before the minute", "there are no three hours before the minute"},
     {15, "the vapour pressure is below 0.19 hPa", "the vapour pressure is below 0.19 hPa"},
-    {16, "record 3 breaks the rules of the file, or is the 49th", "a record breaks the rules of the file, or is the 49th"},
+    {16, "record 3, counted from 0, breaks the rules of the file, or is one too many", "a record breaks the rules of the file, or is one too many"},
     {17, "the buffer is too short: 3 bytes are needed", "the buffer is too short"},
     {18, "the file is broken at byte 3", "the file is broken"},
-    {19, "the minute is 3 minutes earlier than the channel's newest", "the minute is earlier than the channel's newest"},
+    {19, "the minute is 3 minutes earlier than the channel's newest reading", "the minute is earlier than the channel's newest reading"},
     {20, "the wet bulb is above 0.0 " DEGREE "C, and not with water on it",
      "the wet bulb is above 0.0 " DEGREE "C, and not with water on it"},
     {21, "the wet bulb's state is unknown, and the dry bulb not within -9.9 to 0.0 " DEGREE "C",
@@ -230,16 +230,50 @@ static void returns_are_said(void)
     says(11, UINT64_C(0x100000000), 10, "channel 4294967296 has no reading at minute 10");
     says(12, 0, 7, "the barometer at minute 0 is outside its certificate");
     says(12, UINT64_MAX, 7, "the barometer at minute 18446744073709551615 is outside its certificate");
-    says(16, 48, 0, "record 48 breaks the rules of the file, or is the 49th");
-    says(16, UINT64_MAX, 0, "record 18446744073709551615 breaks the rules of the file, or is the 49th");
+    says(16, 48, 0, "record 48, counted from 0, breaks the rules of the file, or is one too many");
+    says(16, UINT64_MAX, 0, "record 18446744073709551615, counted from 0, breaks the rules of the file, or is one too many");
     says(17, 820, 0, "the buffer is too short: 820 bytes are needed");
     says(17, UINT64_MAX, 0, "the buffer is too short: 18446744073709551615 bytes are needed");
     says(18, 0, 0, "the file is broken at byte 0");
     says(18, UINT64_MAX, 0, "the file is broken at byte 18446744073709551615");
-    says(19, 0, 0, "the minute is 0 minutes earlier than the channel's newest");
-    says(19, 1, 0, "the minute is 1 minute earlier than the channel's newest");
-    says(19, 60, 0, "the minute is 60 minutes earlier than the channel's newest");
-    says(19, UINT64_MAX, 0, "the minute is 18446744073709551615 minutes earlier than the channel's newest");
+    says(19, 0, 0, "the minute is 0 minutes earlier than the channel's newest reading");
+    says(19, 1, 0, "the minute is 1 minute earlier than the channel's newest reading");
+    says(19, 60, 0, "the minute is 60 minutes earlier than the channel's newest reading");
+    says(19, UINT64_MAX, 0, "the minute is 18446744073709551615 minutes earlier than the channel's newest reading");
+}
+
+/* ---- what a call told */
+
+#define TOLD(say, told, text)                              \
+    do {                                                   \
+        zhitomrak_sentence sentence = unsaid();            \
+        is_said(say(told, &sentence), &sentence, text);    \
+    } while (0)
+
+static void calls_are_said(void)
+{
+    zhitomrak_heard late = {19, 60}, heard = {0, 0};
+    TOLD(zhitomrak_say_heard, heard, "nothing is refused");
+    TOLD(zhitomrak_say_heard, late, "the minute is 60 minutes earlier than the channel's newest reading");
+    zhitomrak_noted no_course = {11, 3, 600, 0}, noted_late = {19, 0, 0, 1};
+    TOLD(zhitomrak_say_noted, no_course, "the ship's motion has no reading at minute 600");
+    TOLD(zhitomrak_say_noted, noted_late, "the minute is 1 minute earlier than the channel's newest reading");
+    zhitomrak_refusal missing = {11, 4, 220}, outside = {12, 0, 180};
+    TOLD(zhitomrak_say_asked, missing, "the dry bulb has no reading at minute 220");
+    TOLD(zhitomrak_say_asked, outside, "the barometer at minute 180 is outside its certificate");
+    zhitomrak_file broken = {18, 41, 0}, good = {0, 0, 4};
+    TOLD(zhitomrak_say_read, broken, "the file is broken at byte 41");
+    TOLD(zhitomrak_say_read, good, "nothing is refused");
+    zhitomrak_written ruled_out = {16, 3, 0}, no_room = {17, 0, 54};
+    TOLD(zhitomrak_say_written, ruled_out, "record 3, counted from 0, breaks the rules of the file, or is one too many");
+    TOLD(zhitomrak_say_written, no_room, "the buffer is too short: 54 bytes are needed");
+    zhitomrak_placed index = {16, 48, 0, 0}, place = {18, 0, 2, 0}, bytes = {17, 0, 0, 820}, none = {254, 0, 0, 0};
+    TOLD(zhitomrak_say_placed, index, "record 48, counted from 0, breaks the rules of the file, or is one too many");
+    TOLD(zhitomrak_say_placed, place, "the file is broken at byte 2");
+    TOLD(zhitomrak_say_placed, bytes, "the buffer is too short: 820 bytes are needed");
+    TOLD(zhitomrak_say_placed, none, "there is no such record");
+    zhitomrak_listed no_listing = {17, 70};
+    TOLD(zhitomrak_say_listed, no_listing, "the buffer is too short: 70 bytes are needed");
 }
 
 int main(void)
@@ -249,5 +283,6 @@ int main(void)
     refusals_beside_answers_are_said();
     refusals_are_said();
     returns_are_said();
+    calls_are_said();
     return wrong != 0;
 }

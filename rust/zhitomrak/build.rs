@@ -17,9 +17,19 @@ fn named(folder: PathBuf) -> PathBuf {
         .unwrap_or(folder)
 }
 
-/// Where pkg-config says that it is.
+/// Where pkg-config says that one of this version is.
 fn installed() -> Option<PathBuf> {
-    let told = Command::new("pkg-config")
+    let pkg_config = || Command::new(env::var_os("PKG_CONFIG").unwrap_or("pkg-config".into()));
+    let version = concat!("zhitomrak = ", env!("CARGO_PKG_VERSION"));
+    if !pkg_config()
+        .args(["--exists", version])
+        .status()
+        .ok()?
+        .success()
+    {
+        return None;
+    }
+    let told = pkg_config()
         .args(["--variable=libdir", "zhitomrak"])
         .output()
         .ok()?;
@@ -71,6 +81,7 @@ fn find() -> Option<PathBuf> {
 
 fn main() {
     println!("cargo:rerun-if-env-changed=ZHITOMRAK_LIB");
+    println!("cargo:rerun-if-env-changed=PKG_CONFIG");
     println!("cargo:rerun-if-env-changed=PKG_CONFIG_PATH");
     println!("cargo:rerun-if-changed=build.rs");
     match find() {

@@ -74,11 +74,11 @@ pub no-reading : refusalText 11 0 820 ≡ letters "the barometer has no reading 
 unfolding digits decimal
 no-reading = refl
 
-pub a-minute-late : refusalText 19 1 0 ≡ letters "the minute is 1 minute earlier than the channel's newest"
+pub a-minute-late : refusalText 19 1 0 ≡ letters "the minute is 1 minute earlier than the channel's newest reading"
 unfolding digits decimal
 a-minute-late = refl
 
-pub an-hour-late : refusalText 19 60 0 ≡ letters "the minute is 60 minutes earlier than the channel's newest"
+pub an-hour-late : refusalText 19 60 0 ≡ letters "the minute is 60 minutes earlier than the channel's newest reading"
 unfolding digits decimal
 an-hour-late = refl
 

@@ -17,9 +17,9 @@ heardText n =
     (cond (eqb n 3) (letters "a byte of the message that must be zero is not")
     (cond (eqb n 4) (letters "the state of the wet bulb is above 2")
     (cond (eqb n 5) (letters "the minute is above 16777215")
-    (cond (eqb n 6) (letters "the value is infinite or not a number")
-    (cond (eqb n 7) (letters "the value is outside its limits")
-    (letters "the minute is that of the channel's newest")))))))
+    (cond (eqb n 6) (letters "a value is infinite or not a number")
+    (cond (eqb n 7) (letters "a value is outside its limits")
+    (letters "the minute is that of the channel's newest reading")))))))
 
 -- of settings and entries, of a record that is not there, and of a block that is no store
 abbrev pub otherText : ℕ → List ℕ
@@ -61,10 +61,10 @@ abbrev pub moreText : ℕ → ℕ → ℕ → List ℕ
 moreText n first second =
     cond (eqb n 11) (channelText first ++ (letters " has no reading at minute " ++ decimal second))
     (cond (eqb n 12) (letters "the barometer at minute " ++ (decimal first ++ letters " is outside its certificate"))
-    (cond (eqb n 16) (letters "record " ++ (decimal first ++ letters " breaks the rules of the file, or is the 49th"))
+    (cond (eqb n 16) (letters "record " ++ (decimal first ++ letters ", counted from 0, breaks the rules of the file, or is one too many"))
     (cond (eqb n 17) (letters "the buffer is too short: " ++ (decimal first ++ letters " bytes are needed"))
     (cond (eqb n 18) (letters "the file is broken at byte " ++ decimal first)
-    (cond (eqb n 19) (letters "the minute is " ++ (minutes first ++ letters " earlier than the channel's newest"))
+    (cond (eqb n 19) (letters "the minute is " ++ (minutes first ++ letters " earlier than the channel's newest reading"))
     (askedText n))))))
 
 -- Any refusal, by its number and what it also returns, in this order.

@@ -206,12 +206,16 @@ fn put_heard(text: &mut [u8], at: usize, number: u32) -> usize
         return text::put_bytes(text, at, b"the minute is above 16777215");
     }
     if number == 6 {
-        return text::put_bytes(text, at, b"the value is infinite or not a number");
+        return text::put_bytes(text, at, b"a value is infinite or not a number");
     }
     if number == 7 {
-        return text::put_bytes(text, at, b"the value is outside its limits");
+        return text::put_bytes(text, at, b"a value is outside its limits");
     }
-    text::put_bytes(text, at, b"the minute is that of the channel's newest")
+    text::put_bytes(
+        text,
+        at,
+        b"the minute is that of the channel's newest reading",
+    )
 }
 
 fn put_other(text: &mut [u8], at: usize, number: u32) -> usize
@@ -326,11 +330,11 @@ fn put_missing(text: &mut [u8], at: usize, channel: u64, minute: u64) -> usize
 
 // Puts by how many minutes a message is late.
 fn put_late(text: &mut [u8], at: usize, late: u64) -> usize
-    ensures { λ r. ⌜ Put (now (text .entry)) (now (text .exit)) at (letters "the minute is " ++ (minutes late ++ letters " earlier than the channel's newest")) r ⌝ }
+    ensures { λ r. ⌜ Put (now (text .entry)) (now (text .exit)) at (letters "the minute is " ++ (minutes late ++ letters " earlier than the channel's newest reading")) r ⌝ }
 {
     let number = text::put_bytes(text, at, b"the minute is ");
     let behind = put_minutes(text, number, late);
-    text::put_bytes(text, behind, b" earlier than the channel's newest")
+    text::put_bytes(text, behind, b" earlier than the channel's newest reading")
 }
 
 // Puts words, a number, and words behind it.
@@ -363,7 +367,7 @@ fn put_more(text: &mut [u8], at: usize, number: u32, first: u64, second: u64) ->
             at,
             b"record ",
             first,
-            b" breaks the rules of the file, or is the 49th",
+            b", counted from 0, breaks the rules of the file, or is one too many",
         );
     }
     if number == 17 {

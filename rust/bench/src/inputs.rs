@@ -30,7 +30,7 @@ pub const MM_HG: Barometer = Barometer {
 pub fn open_proved(barometer: &Barometer) -> Store {
     let settings = Settings {
         unit: if barometer.mm_hg {
-            Unit::Millimetres
+            Unit::MillimetresOfMercury
         } else {
             Unit::Hectopascals
         },

@@ -63,7 +63,7 @@ impl Chosen {
         let anemometer: Vec<AnemometerPoint> = self.rates.iter().map(|&pair| pair.into()).collect();
         Settings {
             unit: if self.mm_hg {
-                Unit::Millimetres
+                Unit::MillimetresOfMercury
             } else {
                 Unit::Hectopascals
             },

@@ -83,9 +83,9 @@ pub fn refusal(number: u32, first: u64, second: u64) -> Option<String> {
         3 => "a byte of the message that must be zero is not",
         4 => "the state of the wet bulb is above 2",
         5 => "the minute is above 16777215",
-        6 => "the value is infinite or not a number",
-        7 => "the value is outside its limits",
-        8 => "the minute is that of the channel's newest",
+        6 => "a value is infinite or not a number",
+        7 => "a value is outside its limits",
+        8 => "the minute is that of the channel's newest reading",
         9 => "a setting is outside its limits",
         10 => "the barometer's certificate breaks its rules",
         11 => {
@@ -102,7 +102,7 @@ pub fn refusal(number: u32, first: u64, second: u64) -> Option<String> {
         15 => "the vapour pressure is below 0.19 hPa",
         16 => {
             return Some(format!(
-                "record {first} breaks the rules of the file, or is the 49th"
+                "record {first}, counted from 0, breaks the rules of the file, or is one too many"
             ))
         }
         17 => return Some(format!("the buffer is too short: {first} bytes are needed")),
@@ -110,7 +110,7 @@ pub fn refusal(number: u32, first: u64, second: u64) -> Option<String> {
         19 => {
             let late = minutes(first);
             return Some(format!(
-                "the minute is {late} earlier than the channel's newest"
+                "the minute is {late} earlier than the channel's newest reading"
             ));
         }
         20 => "the wet bulb is above 0.0 °C, and not with water on it",

@@ -4,54 +4,21 @@
 
 use std::io::Write;
 
-use zhitomrak::watchfile::{self, Body, Record, LISTING_MAX_BYTES, MAX_BYTES};
-use zhitomrak::{Entry, Humidity, Refused, Settings, Store, Unit};
+use zhitomrak::watchfile::{self, Record, WatchFile, LISTING_MAX_BYTES};
+use zhitomrak::{BulbState, Entry, Kind, Message, Refused, Settings, Store, Unit};
 
-/// A message: channel, state, minute and binary32 values, little endian. The state is what is on the wet bulb: 0 water, 1 ice, 2
-/// unknown; on the other channels it is 0.
-fn send(store: &mut Store, channel: u8, state: u8, minute: u32, first: f32, second: f32) {
-    let mut message = [0; 16];
-    message[0] = channel;
-    message[1] = state;
-    message[4..8].copy_from_slice(&minute.to_le_bytes());
-    message[8..12].copy_from_slice(&first.to_le_bytes());
-    message[12..].copy_from_slice(&second.to_le_bytes());
-    match store.hear(&message) {
-        Ok(()) => {}
-        Err(Refused::Late { minutes }) => {
-            println!("channel {channel}, minute {minute}: refused 19, {minutes} minutes late")
-        }
-        Err(refused) => println!(
-            "channel {channel}, minute {minute}: refused {}",
-            refused.number()
-        ),
+/// Hears a message, and says why where it is refused. Its first byte is the channel.
+fn send(store: &mut Store, minute: u32, message: impl AsRef<[u8]>) {
+    if let Err(why) = store.hear(&message) {
+        println!("channel {}, minute {minute}: {why}", message.as_ref()[0]);
     }
 }
 
 /// The wind by the hand anemometer. It needs the course of its minute, from channel 3.
 fn note(store: &mut Store, entry: Entry) {
-    let of = entry.minute;
-    match store.note(entry) {
-        Ok(()) => {}
-        Err(Refused::MissingReading { channel, minute }) => {
-            println!("entry, minute {of}: refused 11, channel {channel}, minute {minute}")
-        }
-        Err(Refused::Late { minutes }) => {
-            println!("entry, minute {of}: refused 19, {minutes} minutes late")
-        }
-        Err(refused) => println!("entry, minute {of}: refused {}", refused.number()),
+    if let Err(why) = store.note(entry) {
+        println!("entry, minute {}: {why}", entry.minute);
     }
-}
-
-fn say_humidity(of: &str, h: Humidity) {
-    println!(
-        "{of} {} {} {} {} {}",
-        h.vapour_pressure.hundredths(),
-        h.saturation.hundredths(),
-        h.deficit.hundredths(),
-        h.relative_humidity,
-        h.dew_point.tenths()
-    );
 }
 
 /// The instruments of one minute.
@@ -59,82 +26,71 @@ fn minute_passes(store: &mut Store, minute: u32) {
     let falls = minute as f32 * 0.03;
     // a quarter of an hour without barometer
     if !(60..75).contains(&minute) {
-        send(store, 0, 0, minute, 741.9 - falls, 0.0);
+        send(store, minute, Message::barometer(minute, 741.9 - falls));
     }
-    send(store, 1, 0, minute, 12.4, 0.0);
-    send(store, 2, 0, minute, 2.5, 40.0);
-    send(store, 3, 0, minute, 12.5, 260.0);
-    send(store, 4, 0, minute, 20.0, 0.0);
-    send(store, 5, 0, minute, 15.0, 0.0);
+    send(store, minute, Message::wheelhouse(minute, 12.4));
+    send(store, minute, Message::apparent_wind(minute, 2.5, 40.0));
+    send(store, minute, Message::ship_motion(minute, 12.5, 260.0));
+    send(store, minute, Message::dry_bulb(minute, 20.0));
+    let wet = Message::wet_bulb(minute, 15.0, BulbState::Water);
+    send(store, minute, wet);
 }
 
 fn main() -> Result<(), Refused> {
-    // table 1 of RD 52.04.651
-    let anemometer = [
-        (1, 13),
-        (2, 22),
-        (3, 31),
-        (4, 40),
-        (5, 49),
-        (6, 58),
-        (7, 67),
-        (8, 76),
-        (9, 85),
-        (10, 94),
-        (20, 188),
-    ];
     let mut settings = Settings {
-        unit: Unit::Millimetres,
+        unit: Unit::MillimetresOfMercury,
         height: 601,
         difference: -268, // the Caspian
         coefficient: 24,
         psychrometer: 662,
         certificate: [(7300, -4), (7500, -8)].into(),
-        anemometer: anemometer.into(),
+        // table 1 of RD 52.04.651
+        anemometer: [
+            (1, 13),
+            (2, 22),
+            (3, 31),
+            (4, 40),
+            (5, 49),
+            (6, 58),
+            (7, 67),
+            (8, 76),
+            (9, 85),
+            (10, 94),
+            (20, 188),
+        ]
+        .into(),
     };
-    let told = |opening: &Result<Store, Refused>| {
-        opening.as_ref().err().map_or(0, |refused| refused.number())
-    };
-    println!("open: {}", told(&Store::open(&settings)));
+    if let Err(why) = Store::open(&settings) {
+        println!("open: {why}");
+    }
     settings.height = 101;
-    let opening = Store::open(&settings);
-    println!("open: {}", told(&opening));
-    let mut store = opening?;
+    let mut store = Store::open(&settings)?;
+    println!("open: nothing is refused");
     for minute in 0..=240 {
         minute_passes(&mut store, minute);
     }
     // the newest minute again
-    send(&mut store, 0, 0, 240, 741.9, 0.0);
+    send(&mut store, 240, Message::barometer(240, 741.9));
     // a clock that has gone back by an hour
-    send(&mut store, 4, 0, 180, 20.0, 0.0);
+    send(&mut store, 180, Message::dry_bulb(180, 20.0));
 
-    if let Err(Refused::MissingReading { channel, minute }) = store.pressure(70) {
-        println!("refused 11, channel {channel}, minute {minute}");
+    if let Err(why) = store.pressure(70) {
+        println!("pressure: {why}");
     }
-    let pressure = store.pressure(240)?;
-    let tendency = store.tendency(230)?;
-    let wind = store.wind(240)?;
-    let humidity = store.humidity(240)?;
-    println!("pressure {}", pressure.tenths());
-    println!(
-        "tendency {}, {} absent",
-        tendency.change.tenths(),
-        tendency.absent
-    );
-    println!(
-        "wind {} from {}",
-        wind.speed.tenths(),
-        wind.direction.degrees()
-    );
-    say_humidity("humidity", humidity);
+    println!("pressure: {}", store.pressure(240)?);
+    println!("tendency: {}", store.tendency(230)?);
+    println!("wind: {}", store.wind(240)?);
+    println!("humidity: {}", store.humidity(240)?);
 
-    send(&mut store, 0, 0, 241, 734.7, 0.0);
-    send(&mut store, 4, 0, 241, -10.0, 0.0);
+    send(&mut store, 241, Message::barometer(241, 734.7));
+    send(&mut store, 241, Message::dry_bulb(241, -10.0));
+    let iced = Message::wet_bulb(241, -10.0, BulbState::Ice);
     // there is no state 3
-    send(&mut store, 5, 3, 241, -10.0, 0.0);
-    // ice
-    send(&mut store, 5, 1, 241, -10.0, 0.0);
-    say_humidity("humidity by an iced bulb", store.humidity(241)?);
+    let mut wrong = *iced.as_bytes();
+    wrong[1] = 3;
+    send(&mut store, 241, wrong);
+    send(&mut store, 241, iced);
+    println!("humidity by an iced bulb: {}", store.humidity(241)?);
 
     // 140 divisions in a minute, past 9999, by the compass from 300 degrees: 2.5 m/s, and 40 degrees from the bow
     let entry = Entry {
@@ -146,46 +102,45 @@ fn main() -> Result<(), Refused> {
     };
     // the course has not come yet
     note(&mut store, entry);
-    send(&mut store, 3, 0, 242, 12.5, 260.0);
+    send(&mut store, 242, Message::ship_motion(242, 12.5, 260.0));
     note(&mut store, entry);
     // the same minute again
     note(&mut store, entry);
-    let by_hand = store.wind(242)?;
-    println!(
-        "wind by hand {} from {}",
-        by_hand.speed.tenths(),
-        by_hand.direction.degrees()
-    );
+    println!("wind by hand: {}", store.wind(242)?);
 
-    let records = [
-        Record::new(230, Body::Tendency(tendency)),
-        Record::new(240, Body::Pressure(pressure)),
-        Record::new(240, Body::Wind(wind)),
-        Record::new(240, Body::Humidity(humidity)),
+    let records: [Record; 4] = [
+        store.record(Kind::Tendency, 230)?,
+        store.record(Kind::Pressure, 240)?,
+        store.record(Kind::Wind, 240)?,
+        store.record(Kind::Humidity, 240)?,
     ];
-    let mut file = [0; MAX_BYTES];
-    if let Err(Refused::TooShort { bytes }) = watchfile::write(&records, &mut file[..10]) {
-        println!("write: refused 17, {bytes} bytes needed");
+    if let Err(why) = watchfile::write(&records, &mut [0; 10]) {
+        println!("write: {why}");
     }
-    let length = watchfile::write(&records, &mut file)?;
-    println!("written: {length} bytes");
-
-    let read = watchfile::read(&file[..length])?;
+    // one by one, in whatever order they come, each in its place
+    let mut file = WatchFile::new();
+    for record in records.iter().rev() {
+        file.place(record)?;
+    }
+    println!("written: {} bytes", file.as_bytes().len());
+    let read = file.records();
     println!(
         "read: {} records, the last of minute {}",
         read.len(),
         read.iter().next_back().map_or(0, |record| record.minute())
     );
-    let mut room = [0; LISTING_MAX_BYTES];
-    let mut out = std::io::stdout();
-    if let Err(Refused::TooShort { bytes }) = watchfile::list(&file[..length], &mut room[..10]) {
-        println!("list: refused 17, {bytes} bytes needed");
-        out.write_all(watchfile::list(&file[..length], &mut room[..bytes])?)
-            .expect("standard output takes it");
+    if let Err(why) = watchfile::list(file.as_bytes(), &mut [0; 10]) {
+        println!("list: {why}");
     }
+    print!("{file}");
     // a damaged dew point
-    file[length - 1] ^= 1;
-    out.write_all(watchfile::list(&file[..length], &mut room)?)
+    let mut damaged = file.as_bytes().to_vec();
+    if let Some(last) = damaged.last_mut() {
+        *last ^= 1;
+    }
+    let mut room = [0; LISTING_MAX_BYTES];
+    std::io::stdout()
+        .write_all(watchfile::list(&damaged, &mut room)?)
         .expect("standard output takes it");
     Ok(())
 }

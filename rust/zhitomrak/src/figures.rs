@@ -12,7 +12,12 @@ pub(crate) fn say(
     let mut sentence = [0; ffi::SENTENCE_MAX_BYTES];
     let length = put(&mut sentence);
     let text = sentence.get(..length).ok_or(fmt::Error)?;
-    line.pad(core::str::from_utf8(text).map_err(|_| fmt::Error)?)
+    let text = core::str::from_utf8(text).map_err(|_| fmt::Error)?;
+    // a width is kept; a precision would cut the sentence
+    match line.precision() {
+        None => line.pad(text),
+        Some(_) => line.write_str(text),
+    }
 }
 
 macro_rules! figure {
@@ -22,13 +27,13 @@ macro_rules! figure {
         pub struct $name($whole);
 
         impl $name {
-            #[doc = concat!("The figure of so many ", stringify!($parts), ".")]
+            #[doc = concat!("The figure of so many ", stringify!($parts), " of ", stringify!($unit), ".")]
             #[inline]
             pub const fn $from($parts: $whole) -> Self {
                 Self($parts)
             }
 
-            #[doc = concat!("How many ", stringify!($parts), " it is, exactly.")]
+            #[doc = concat!("How many ", stringify!($parts), " of ", stringify!($unit), " it is, exactly.")]
             #[inline]
             pub const fn $parts(self) -> $whole {
                 self.0

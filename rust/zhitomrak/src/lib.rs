@@ -16,8 +16,8 @@
 //! })?;
 //! for minute in 0..=180 {
 //!     if minute == 100 { continue } // the barometer missed a minute
-//!     store.hear(Message::barometer(minute, 1004.2 - minute as f32 * 0.01).as_bytes())?;
-//!     store.hear(Message::wheelhouse(minute, 18.0).as_bytes())?;
+//!     store.hear(Message::barometer(minute, 1004.2 - minute as f32 * 0.01))?;
+//!     store.hear(Message::wheelhouse(minute, 18.0))?;
 //! }
 //! let tendency = store.tendency(180)?;
 //! assert_eq!(tendency.to_string(), "-1.8 hPa in three hours, 1 minute without a reading");

@@ -4,6 +4,7 @@ use core::fmt;
 
 use crate::ffi;
 use crate::figures::say;
+use crate::Version;
 
 /// Why something was refused. A refusal gives no figure. As text it is a sentence: `the barometer has no reading at minute 820`.
 #[derive(Clone, Copy, Debug, PartialEq, Eq, Hash)]
@@ -18,14 +19,14 @@ pub enum Refused {
     /// 4: the wet bulb's state is above 2.
     NoSuchState,
     /// 5: a minute above 16,777,215, sent or asked.
-    MinuteTooLate,
+    MinuteAboveLast,
     /// 6: infinite or not a number.
     NotFinite,
     /// 7: outside limits.
     OutsideLimits,
     /// 8: the minute of the channel's newest.
     Repeated,
-    /// 19, tested directly after 8: a minute earlier than the channel's newest.
+    /// 19, tested directly after 8: a minute earlier than the channel's newest reading.
     Late {
         /// How many minutes earlier, at least 1.
         minutes: u64,
@@ -84,6 +85,13 @@ pub enum Refused {
     /// 255, none of the documents' numbers: the words were never opened, so there is no store to hear or to ask. A
     /// [`Store`](crate::Store) that was opened never answers this; one made of other words does.
     NoStore,
+    /// The words hold what no store holds, since no opening made them: a minute, a unit or a state that there is not. It has no number.
+    Damaged,
+    /// The library that is linked is of another version than this crate, and is not used. It has no number.
+    OtherVersion {
+        /// The library's.
+        library: Version,
+    },
     /// A number that this crate does not know: the library that is linked is another than the one it was written for. It is none
     /// of the refusals above.
     Unknown {
@@ -93,14 +101,15 @@ pub enum Refused {
 }
 
 impl Refused {
-    /// The documents' number, or that of [`Refused::NoRecord`] and [`Refused::NoStore`], or the one that is not known.
+    /// The documents' number, or that of [`Refused::NoRecord`] and [`Refused::NoStore`], or the one that is not known; 0 where there
+    /// is none.
     pub const fn number(self) -> u32 {
         match self {
             Refused::NotSixteenBytes => 1,
             Refused::NoSuchChannel => 2,
             Refused::ByteNotZero => 3,
             Refused::NoSuchState => 4,
-            Refused::MinuteTooLate => 5,
+            Refused::MinuteAboveLast => 5,
             Refused::NotFinite => 6,
             Refused::OutsideLimits => 7,
             Refused::Repeated => 8,
@@ -124,7 +133,48 @@ impl Refused {
             Refused::NoRecord => ffi::NO_RECORD,
             Refused::NoStore => ffi::NO_STORE,
             Refused::Unknown { number } => number,
+            Refused::Damaged | Refused::OtherVersion { .. } => 0,
         }
+    }
+
+    /// What a number says, without what it also returns (docs/REFUSALS.md); none where no refusal has it.
+    ///
+    /// ```
+    /// # use zhitomrak::Refused;
+    /// assert_eq!(Refused::text_of(18), Some("the file is broken"));
+    /// assert_eq!(Refused::text_of(26), None);
+    /// ```
+    pub const fn text_of(number: u32) -> Option<&'static str> {
+        Some(match number {
+            1 => "the message is not 16 bytes",
+            2 => "the channel is above 5",
+            3 => "a byte of the message that must be zero is not",
+            4 => "the state of the wet bulb is above 2",
+            5 => "the minute is above 16777215",
+            6 => "a value is infinite or not a number",
+            7 => "a value is outside its limits",
+            8 => "the minute is that of the channel's newest reading",
+            9 => "a setting is outside its limits",
+            10 => "the barometer's certificate breaks its rules",
+            11 => "a reading is absent or no longer kept",
+            12 => "a reading of the barometer is outside its certificate",
+            13 => "the wet bulb is above the dry bulb, with water on it",
+            14 => "there are no three hours before the minute",
+            15 => "the vapour pressure is below 0.19 hPa",
+            16 => "a record breaks the rules of the file, or is one too many",
+            17 => "the buffer is too short",
+            18 => "the file is broken",
+            19 => "the minute is earlier than the channel's newest reading",
+            20 => "the wet bulb is above 0.0 °C, and not with water on it",
+            21 => "the wet bulb's state is unknown, and the dry bulb not within -9.9 to 0.0 °C",
+            22 => "the vapour pressure is above saturation over water at the dry bulb",
+            23 => "a dial is above 9999, or the seconds are not 1 to 600",
+            24 => "the rate is outside the anemometer's certificate, or there is none",
+            25 => "the anemometer's certificate breaks its rules",
+            254 => "there is no such record",
+            255 => "the store was never opened",
+            _ => return None,
+        })
     }
 
     /// What it also returns, in the order of the documents, and 0 where there is nothing.
@@ -143,11 +193,21 @@ impl Refused {
 
 impl fmt::Display for Refused {
     fn fmt(&self, line: &mut fmt::Formatter<'_>) -> fmt::Result {
-        let (first, second) = self.extras();
-        let number = self.number();
-        say(line, |sentence| {
-            ffi::say_refusal(number, first, second, sentence)
-        })
+        match self {
+            Refused::Damaged => line.write_str("the words are those of no store that was opened"),
+            Refused::OtherVersion { library } => write!(
+                line,
+                "the library is version {library}, and this crate {}",
+                Version::CRATE
+            ),
+            _ => {
+                let (first, second) = self.extras();
+                let number = self.number();
+                say(line, |sentence| {
+                    ffi::say_refusal(number, first, second, sentence)
+                })
+            }
+        }
     }
 }
 
@@ -162,7 +222,7 @@ const fn bare(number: u32) -> Refused {
         2 => Refused::NoSuchChannel,
         3 => Refused::ByteNotZero,
         4 => Refused::NoSuchState,
-        5 => Refused::MinuteTooLate,
+        5 => Refused::MinuteAboveLast,
         6 => Refused::NotFinite,
         7 => Refused::OutsideLimits,
         8 => Refused::Repeated,
@@ -326,11 +386,11 @@ mod tests {
             (missing, "the barometer has no reading at minute 820"),
             (
                 Refused::Late { minutes: 1 },
-                "the minute is 1 minute earlier than the channel's newest",
+                "the minute is 1 minute earlier than the channel's newest reading",
             ),
             (
                 Refused::Late { minutes: u64::MAX },
-                "the minute is 18446744073709551615 minutes earlier than the channel's newest",
+                "the minute is 18446744073709551615 minutes earlier than the channel's newest reading",
             ),
             (
                 Refused::OutsideCertificate { minute: 7 },
@@ -338,7 +398,7 @@ mod tests {
             ),
             (
                 Refused::BreaksRules { index: 3 },
-                "record 3 breaks the rules of the file, or is the 49th",
+                "record 3, counted from 0, breaks the rules of the file, or is one too many",
             ),
             (
                 Refused::TooShort { bytes: 54 },

@@ -11,7 +11,7 @@ pub enum Unit {
     #[default]
     Hectopascals,
     /// Millimetres of mercury.
-    Millimetres,
+    MillimetresOfMercury,
 }
 
 /// The barometer's certificate: 2 to 16 points.
@@ -120,7 +120,7 @@ impl Settings {
         ffi::Settings {
             unit: match self.unit {
                 Unit::Hectopascals => 0,
-                Unit::Millimetres => 1,
+                Unit::MillimetresOfMercury => 1,
             },
             height: self.height,
             difference: self.difference,
@@ -135,7 +135,7 @@ impl Settings {
     pub(crate) fn of(told: &ffi::Settings) -> Option<Settings> {
         let unit = match told.unit {
             0 => Unit::Hectopascals,
-            1 => Unit::Millimetres,
+            1 => Unit::MillimetresOfMercury,
             _ => return None,
         };
         Some(Settings {

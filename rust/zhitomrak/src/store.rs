@@ -51,6 +51,11 @@ impl Channel {
     pub const fn number(self) -> u32 {
         self as u32
     }
+
+    /// The channel of a number; none above 5.
+    pub fn numbered(number: u32) -> Option<Channel> {
+        Channel::ALL.get(number as usize).copied()
+    }
 }
 
 /// A kind of question, and of record.
@@ -75,6 +80,11 @@ impl Kind {
     #[inline]
     pub const fn number(self) -> u32 {
         self as u32
+    }
+
+    /// The kind of a number; none but of 1 to 4.
+    pub fn numbered(number: u32) -> Option<Kind> {
+        Kind::ALL.into_iter().find(|kind| kind.number() == number)
     }
 }
 
@@ -154,7 +164,7 @@ impl Reading {
             },
             (0, 1) => Reading::Barometer {
                 tenths: told.first,
-                unit: Unit::Millimetres,
+                unit: Unit::MillimetresOfMercury,
             },
             (1, 2) => Reading::Wheelhouse(temperature),
             (2, 3) => Reading::ApparentWind {
@@ -199,9 +209,10 @@ impl Reading {
     }
 }
 
-/// A number as four bytes with a sign hold it; one that they do not is the largest.
-pub(crate) fn whole<T: TryInto<i32>>(n: T) -> i32 {
-    n.try_into().unwrap_or(i32::MAX)
+/// A number as four bytes with a sign hold it; of one that they do not the nearest that they do.
+pub(crate) fn whole(n: impl Into<i128>) -> i32 {
+    let n = n.into().clamp(i32::MIN.into(), i32::MAX.into());
+    n as i32
 }
 
 impl fmt::Display for Reading {
@@ -266,17 +277,13 @@ impl Store {
     pub const WORDS: usize = ffi::STORE_WORDS;
 
     /// An empty store with these settings; or [`Refused::Setting`], else [`Refused::Certificate`], else
-    /// [`Refused::AnemometerCertificate`], and no store.
-    ///
-    /// # Panics
-    /// Where the library that is linked is another version than this crate ([`Version::library`]).
+    /// [`Refused::AnemometerCertificate`], and no store. Before all of them [`Refused::OtherVersion`], where the library is not this
+    /// crate's: no answer of such a library is to be trusted.
     pub fn open(settings: &Settings) -> Result<Store, Refused> {
         let library = Version::library();
-        assert!(
-            library == Version::CRATE,
-            "this crate is zhitomrak {}, and the library that is linked {library}",
-            Version::CRATE
-        );
+        if library != Version::CRATE {
+            return Err(Refused::OtherVersion { library });
+        }
         let mut store = Store::from_words([0; Store::WORDS]);
         opened(ffi::open(&mut store.block, &settings.told()))?;
         Ok(store)
@@ -297,7 +304,7 @@ impl Store {
     pub fn settings(&self) -> Result<Settings, Refused> {
         let mut told = Settings::default().told();
         match ffi::settings_of(&self.block, &mut told) {
-            0 => Settings::of(&told).ok_or(Refused::Unknown { number: 0 }),
+            0 => Settings::of(&told).ok_or(Refused::Damaged),
             ffi::NO_STORE => Err(Refused::NoStore),
             number => Err(Refused::Unknown { number }),
         }
@@ -306,9 +313,19 @@ impl Store {
     /// Hears a message of instruments, 16 bytes, and keeps its reading; or the first of refusals 1 to 8 and 19 whose reason holds,
     /// and nothing has changed. What is kept are tenths and whole degrees, of an exact half the even one, and limits are those of what
     /// is kept. Byte 1 of the wet bulb's message is its state, kept with the reading: 0 water, 1 ice, 2 unknown.
+    ///
+    /// ```
+    /// # use zhitomrak::{Channel, Message, Refused, Settings, Store};
+    /// # let certificate = [(8500, 0), (11000, 0)].into();
+    /// # let mut store = Store::open(&Settings { certificate, ..Settings::default() })?;
+    /// store.hear(Message::barometer(820, 1004.2))?;
+    /// assert_eq!(store.reading(Channel::Barometer, 820)?.to_string(), "1004.2 hPa");
+    /// assert_eq!(store.hear(Message::barometer(817, 1004.1)), Err(Refused::Late { minutes: 3 }));
+    /// # Ok::<(), Refused>(())
+    /// ```
     #[inline]
-    pub fn hear(&mut self, message: &[u8]) -> Result<(), Refused> {
-        heard(ffi::hear(&mut self.block, message))
+    pub fn hear(&mut self, message: impl AsRef<[u8]>) -> Result<(), Refused> {
+        heard(ffi::hear(&mut self.block, message.as_ref()))
     }
 
     /// Cuts the bytes into messages of 16 and hears each, in order; how many came to what is added to the counts. Bytes at the end
@@ -382,11 +399,13 @@ impl Store {
         Ok(record)
     }
 
-    /// The newest minute of a channel; none where nothing is heard of it yet. Or [`Refused::NoStore`].
+    /// The newest minute of a channel; none where nothing is heard of it yet. Or [`Refused::NoStore`]; or [`Refused::Damaged`], of words
+    /// that no opening made.
     pub fn newest(&self, channel: Channel) -> Result<Option<u32>, Refused> {
         let told = ffi::newest(&self.block, channel.number());
         match (told.number, u32::try_from(told.minute)) {
             (0, Ok(minute)) => Ok(Some(minute)),
+            (0, Err(_)) => Err(Refused::Damaged),
             (11, _) => Ok(None),
             (ffi::NO_STORE, _) => Err(Refused::NoStore),
             (number, _) => Err(Refused::Unknown { number }),
@@ -397,7 +416,7 @@ impl Store {
     pub fn reading(&self, channel: Channel, minute: u32) -> Result<Reading, Refused> {
         let told = ffi::reading(&self.block, channel.number(), minute);
         asked(told.refusal)?;
-        Reading::of(&told).ok_or(Refused::Unknown { number: 0 })
+        Reading::of(&told).ok_or(Refused::Damaged)
     }
 
     /// Which minutes from the first on have a reading of a channel: 1, else 0, in a byte for each. Or [`Refused::NoStore`], and every
@@ -450,7 +469,7 @@ mod tests {
         let none = Some(Refused::NoStore);
         let message = message(0, 0, 0, 1000.0);
         // neither a good message nor a wrong one is heard, and no minute is asked for first
-        assert_eq!(store.hear(&message).err(), none);
+        assert_eq!(store.hear(message).err(), none);
         assert_eq!(store.hear(&message[..15]).err(), none);
         assert_eq!(store.note(ENTRY).err(), none);
         let wrong = Entry {
@@ -502,16 +521,16 @@ mod tests {
     fn halves_of_a_message_go_to_the_even_tenth_or_degree() {
         let mut store = opened_store();
         for (minute, sent, kept) in [(1, 1013.25, 10_132), (2, 1013.75, 10_138)] {
-            assert_eq!(store.hear(&message(0, 0, minute, sent)), Ok(()));
-            assert_eq!(store.hear(&message(1, 0, minute, 0.0)), Ok(()));
+            assert_eq!(store.hear(message(0, 0, minute, sent)), Ok(()));
+            assert_eq!(store.hear(message(1, 0, minute, 0.0)), Ok(()));
             assert_eq!(store.pressure(minute), Ok(Pressure::from_tenths(kept)));
         }
         // -0.5 is 0 and 360.5 is 360, within limits; -1.5 is -2 and 361.5 is 362
         for (minute, course) in [(1, -0.5), (2, 360.5)] {
-            assert_eq!(store.hear(&motion(minute, course)), Ok(()));
+            assert_eq!(store.hear(motion(minute, course)), Ok(()));
         }
         for course in [-1.5, 361.5] {
-            assert_eq!(store.hear(&motion(3, course)), Err(Refused::OutsideLimits));
+            assert_eq!(store.hear(motion(3, course)), Err(Refused::OutsideLimits));
         }
     }
 
@@ -519,9 +538,9 @@ mod tests {
     fn the_wet_bulb_s_state_is_kept_with_it() {
         let mut store = opened_store();
         let mut asked = |minute, state, dry, wet| {
-            store.hear(&message(0, 0, minute, 1000.0))?;
-            store.hear(&message(4, 0, minute, dry))?;
-            store.hear(&message(5, state, minute, wet))?;
+            store.hear(message(0, 0, minute, 1000.0))?;
+            store.hear(message(4, 0, minute, dry))?;
+            store.hear(message(5, state, minute, wet))?;
             store
                 .humidity(minute)
                 .map(|h| (h.vapour_pressure.hundredths(), h.relative_humidity))
@@ -540,7 +559,7 @@ mod tests {
         assert_eq!(asked(9, 2, -10.0, -10.0), outside);
         assert_eq!(asked(10, 1, -10.0, 0.0), Err(Refused::AboveSaturation));
         // no other channel has a state
-        let dry = store.hear(&message(4, 1, 11, 15.0));
+        let dry = store.hear(message(4, 1, 11, 15.0));
         assert_eq!(dry, Err(Refused::ByteNotZero));
     }
 
@@ -548,17 +567,17 @@ mod tests {
     fn a_repeated_minute_and_a_late_one_are_told_apart() {
         let mut store = opened_store();
         let bulb = |channel, minute| message(channel, 0, minute, 15.0);
-        assert_eq!(store.hear(&bulb(4, 300)), Ok(()));
+        assert_eq!(store.hear(bulb(4, 300)), Ok(()));
         let was = store.block;
-        assert_eq!(store.hear(&bulb(4, 300)), Err(Refused::Repeated));
+        assert_eq!(store.hear(bulb(4, 300)), Err(Refused::Repeated));
         for minutes in [1, 60, 255, 256, 300] {
             let late = Err(Refused::Late { minutes });
-            assert_eq!(store.hear(&bulb(4, 300 - minutes as u32)), late);
+            assert_eq!(store.hear(bulb(4, 300 - minutes as u32)), late);
         }
         assert!(store.block == was);
         // another channel's first
-        assert_eq!(store.hear(&bulb(5, 0)), Ok(()));
-        assert_eq!(store.hear(&bulb(5, 0)), Err(Refused::Repeated));
+        assert_eq!(store.hear(bulb(5, 0)), Ok(()));
+        assert_eq!(store.hear(bulb(5, 0)), Err(Refused::Repeated));
     }
 
     #[test]
@@ -575,7 +594,7 @@ mod tests {
             minute: 1000,
         };
         let late_minute = noted(&mut store, |e| e.minute = 16_777_216);
-        assert_eq!(late_minute, Err(Refused::MinuteTooLate));
+        assert_eq!(late_minute, Err(Refused::MinuteAboveLast));
         let direction = noted(&mut store, |e| e.direction = 361);
         assert_eq!(direction, Err(Refused::OutsideLimits));
         for change in [
@@ -588,7 +607,7 @@ mod tests {
         }
         assert_eq!(store.note(ENTRY), Err(missing));
         assert!(store.block == was);
-        assert_eq!(store.hear(&motion(1000, 350.0)), Ok(()));
+        assert_eq!(store.hear(motion(1000, 350.0)), Ok(()));
         let was = store.block;
         let slow = noted(&mut store, |e| e.second = 9959);
         assert_eq!(slow, Err(Refused::OutsideRates));
@@ -599,8 +618,8 @@ mod tests {
         let mut other = opened_store();
         let mut head = message(2, 0, 1000, 4.9);
         head[12..].copy_from_slice(&20f32.to_le_bytes());
-        assert_eq!(other.hear(&head), Ok(()));
-        assert_eq!(other.hear(&motion(1000, 350.0)), Ok(()));
+        assert_eq!(other.hear(head), Ok(()));
+        assert_eq!(other.hear(motion(1000, 350.0)), Ok(()));
         assert!(by_hand.is_ok());
         assert_eq!(by_hand, other.wind(1000));
         assert_eq!(store.note(ENTRY), Err(Refused::Repeated));
@@ -620,7 +639,7 @@ mod tests {
         assert!(opened(&points[..20]).is_ok());
         // none: no entry has a rate within it
         let mut store = opened(&[]).expect("the settings are good");
-        assert_eq!(store.hear(&motion(1000, 0.0)), Ok(()));
+        assert_eq!(store.hear(motion(1000, 0.0)), Ok(()));
         assert_eq!(store.note(ENTRY), Err(Refused::OutsideRates));
     }
 
@@ -651,7 +670,7 @@ mod tests {
     #[test]
     fn settings_are_read_back() {
         let settings = Settings {
-            unit: Unit::Millimetres,
+            unit: Unit::MillimetresOfMercury,
             height: 101,
             difference: -268,
             coefficient: 24,
@@ -711,7 +730,7 @@ mod tests {
             })
         );
         let late = store.reading(Channel::DryBulb, LAST_MINUTE + 1);
-        assert_eq!(late, Err(Refused::MinuteTooLate));
+        assert_eq!(late, Err(Refused::MinuteAboveLast));
         let mut minutes = [7; 6];
         assert_eq!(store.stretch(Channel::Barometer, 999, &mut minutes), Ok(()));
         assert_eq!(minutes, [0, 1, 0, 0, 1, 0]);
@@ -773,5 +792,39 @@ mod tests {
             store.record(Kind::Tendency, 181),
             Err(store.tendency(181).unwrap_err())
         );
+    }
+
+    #[test]
+    fn words_that_no_opening_made_are_told_so() {
+        let mut words = *opened_store().words();
+        assert_eq!(Store::from_words(words), opened_store());
+        // the minute after the barometer's newest
+        words[43] = 1 << 40;
+        let damaged = Store::from_words(words);
+        assert_eq!(damaged.newest(Channel::Barometer), Err(Refused::Damaged));
+        assert_eq!(Refused::Damaged.number(), 0);
+        assert_eq!(
+            Refused::Damaged.to_string(),
+            "the words are those of no store that was opened"
+        );
+    }
+
+    #[test]
+    fn a_sentence_is_never_cut() {
+        let calm = Wind::default();
+        assert_eq!(
+            std::format!("{calm:.1}|{calm:6}|{calm:>6}"),
+            "calm|calm  |  calm"
+        );
+    }
+
+    #[test]
+    fn numbers_name_channels_and_kinds() {
+        for number in 0..8 {
+            let channel = Channel::numbered(number).map(Channel::number);
+            assert_eq!(channel, (number < 6).then_some(number));
+            let kind = Kind::numbered(number).map(Kind::number);
+            assert_eq!(kind, (1..=4).contains(&number).then_some(number));
+        }
     }
 }

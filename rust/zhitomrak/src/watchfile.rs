@@ -43,6 +43,30 @@ impl Body {
     }
 }
 
+impl From<Pressure> for Body {
+    fn from(pressure: Pressure) -> Body {
+        Body::Pressure(pressure)
+    }
+}
+
+impl From<Tendency> for Body {
+    fn from(tendency: Tendency) -> Body {
+        Body::Tendency(tendency)
+    }
+}
+
+impl From<Wind> for Body {
+    fn from(wind: Wind) -> Body {
+        Body::Wind(wind)
+    }
+}
+
+impl From<Humidity> for Body {
+    fn from(humidity: Humidity) -> Body {
+        Body::Humidity(humidity)
+    }
+}
+
 impl fmt::Display for Body {
     fn fmt(&self, line: &mut fmt::Formatter<'_>) -> fmt::Result {
         match self {
@@ -60,9 +84,10 @@ impl fmt::Display for Body {
 pub struct Record(pub(crate) ffi::Record);
 
 impl Record {
-    /// The record of an answer and its minute. A figure that four bytes with a sign do not hold is the nearest that they do, which
-    /// no file takes.
-    pub fn new(minute: u32, body: Body) -> Record {
+    /// The record of an answer and its minute, right or wrong. Of a figure that four bytes with a sign do not hold it has the nearest
+    /// that they do, which no file takes.
+    pub fn new(minute: u32, body: impl Into<Body>) -> Record {
+        let body = body.into();
         let figures = match body {
             Body::Pressure(p) => [whole(p.tenths()), 0, 0, 0, 0],
             Body::Tendency(t) => [whole(t.change.tenths()), whole(t.absent), 0, 0, 0],
@@ -242,6 +267,8 @@ impl DoubleEndedIterator for Iter<'_> {
 
 impl ExactSizeIterator for Iter<'_> {}
 
+impl core::iter::FusedIterator for Iter<'_> {}
+
 /// The record with this index of a good file; of any bytes what stands there. Where there is none it has no body.
 #[inline]
 pub fn record_at(file: &[u8], index: usize) -> Record {
@@ -302,11 +329,11 @@ pub fn list<'room>(file: &[u8], room: &'room mut [u8]) -> Result<&'room [u8], Re
 /// A watch file that grows record by record. It never holds but a good file.
 ///
 /// ```
-/// use zhitomrak::watchfile::{Body, Record, WatchFile};
+/// use zhitomrak::watchfile::{Record, WatchFile};
 /// use zhitomrak::{Kind, Pressure};
 /// let mut file = WatchFile::new();
-/// file.place(&Record::new(240, Body::Pressure(Pressure::from_tenths(9770))))?;
-/// for record in file.records() {
+/// file.place(&Record::new(240, Pressure::from_tenths(9770)))?;
+/// for record in &file {
 ///     assert_eq!(record.to_string(), "minute 240: 977.0 hPa at sea level");
 /// }
 /// file.take_out(Kind::Pressure, 240)?;
@@ -382,6 +409,27 @@ impl PartialEq for WatchFile {
 
 impl Eq for WatchFile {}
 
+impl core::hash::Hash for WatchFile {
+    fn hash<H: core::hash::Hasher>(&self, state: &mut H) {
+        self.as_bytes().hash(state);
+    }
+}
+
+impl AsRef<[u8]> for WatchFile {
+    fn as_ref(&self) -> &[u8] {
+        self.as_bytes()
+    }
+}
+
+impl<'file> IntoIterator for &'file WatchFile {
+    type Item = Record;
+    type IntoIter = Iter<'file>;
+
+    fn into_iter(self) -> Iter<'file> {
+        self.records().into_iter()
+    }
+}
+
 impl fmt::Debug for WatchFile {
     fn fmt(&self, line: &mut fmt::Formatter<'_>) -> fmt::Result {
         line.debug_list().entries(self.records()).finish()
@@ -394,5 +442,75 @@ impl fmt::Display for WatchFile {
         let mut room = [0; LISTING_MAX_BYTES];
         let text = list(self.as_bytes(), &mut room).map_err(|_| fmt::Error)?;
         line.write_str(core::str::from_utf8(text).map_err(|_| fmt::Error)?)
+    }
+}
+
+#[cfg(test)]
+mod tests {
+    use super::*;
+    use std::string::ToString;
+    use std::vec::Vec;
+
+    fn pressure(minute: u32, tenths: i64) -> Record {
+        Record::new(minute, Pressure::from_tenths(tenths))
+    }
+
+    #[test]
+    fn records_are_placed_replaced_and_taken_out() {
+        let mut file = WatchFile::new();
+        assert!(file.records().is_empty());
+        for minute in [300, 200, 250] {
+            assert_eq!(file.place(&pressure(minute, 10_000)), Ok(()));
+        }
+        assert_eq!(file.place(&pressure(250, 9_999)), Ok(()));
+        let minutes = |file: &WatchFile| file.into_iter().map(|r| r.minute()).collect::<Vec<_>>();
+        assert_eq!(minutes(&file), [200, 250, 300]);
+        let said = file.records().get(1).map(|r| r.to_string());
+        assert_eq!(said.as_deref(), Some("minute 250: 999.9 hPa at sea level"));
+        assert_eq!(file.take_out(Kind::Pressure, 200), Ok(()));
+        assert_eq!(file.take_out(Kind::Pressure, 200), Err(Refused::NoRecord));
+        assert_eq!(file.take_out(Kind::Wind, 250), Err(Refused::NoRecord));
+        assert_eq!(minutes(&file), [250, 300]);
+        assert_eq!(WatchFile::from_bytes(file.as_bytes()), Ok(file.clone()));
+        assert_eq!(file.to_string(), "WT 1 2\nP 250 9999\nP 300 10000\n");
+        let cut = &file.as_bytes()[..7];
+        assert_eq!(
+            WatchFile::from_bytes(cut),
+            Err(Refused::Broken { place: 7 })
+        );
+    }
+
+    #[test]
+    fn a_49th_is_refused_and_nothing_is_lost() {
+        let mut file = WatchFile::new();
+        for minute in 0..48 {
+            assert_eq!(file.place(&pressure(minute, 10_000)), Ok(()));
+        }
+        let full = file.clone();
+        let refused = Err(Refused::BreaksRules { index: 48 });
+        assert_eq!(file.place(&pressure(48, 10_000)), refused);
+        assert_eq!(file, full);
+        assert_eq!(file.records().into_iter().rev().count(), 48);
+    }
+
+    #[test]
+    fn a_figure_that_does_not_fit_is_refused_by_its_own_place() {
+        let mut file = WatchFile::new();
+        assert_eq!(file.place(&pressure(200, 10_000)), Ok(()));
+        for wrong in [i64::MIN, -1, 65_536, i64::MAX] {
+            let refused = Err(Refused::BreaksRules { index: 0 });
+            assert_eq!(file.place(&pressure(199, wrong)), refused);
+        }
+        let falls = Tendency {
+            change: PressureChange::from_tenths(i64::MIN),
+            absent: 0,
+        };
+        let record = Record::new(200, falls);
+        let Some(Body::Tendency(kept)) = record.body() else {
+            panic!("it is a tendency");
+        };
+        // the nearest that four bytes hold
+        assert_eq!(kept.change.tenths(), i64::from(i32::MIN));
+        assert_eq!(file.place(&record), Err(Refused::BreaksRules { index: 1 }));
     }
 }
