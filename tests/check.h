@@ -5,7 +5,7 @@
 #include <stdio.h>
 #include <string.h>
 
-#include "zhitomrak.h"
+#include "ship.h"
 
 static unsigned wrong;
 
@@ -45,19 +45,6 @@ static inline void check_refused(const char *file, int line, const char *what, z
     printf("%s:%d: %s: refused %lu, channel %lu, minute %lu; not %lu, %lu, %lu\n", file, line, what, (unsigned long)got.number,
            (unsigned long)got.channel, (unsigned long)got.minute, (unsigned long)number, (unsigned long)channel, (unsigned long)minute);
     wrong++;
-}
-
-/* Settings without corrections: what the barometer says is the pressure at sea level. With table 1 of RD 52.04.651. */
-static inline zhitomrak_settings plain_settings(void)
-{
-    return (zhitomrak_settings){
-        .unit = ZHITOMRAK_UNIT_HPA,
-        .psychrometer = 662,
-        .count = 2,
-        .points = {{8500, 0}, {11000, 0}},
-        .anemometer = {.count = 11,
-                       .points = {{1, 13}, {2, 22}, {3, 31}, {4, 40}, {5, 49}, {6, 58}, {7, 67}, {8, 76}, {9, 85}, {10, 94}, {20, 188}}},
-    };
 }
 
 static inline void open_plain(zhitomrak_store *store)

@@ -8,7 +8,7 @@
 #include <stdio.h>
 #include <string.h>
 
-#include "zhitomrak.h"
+#include "ship.h"
 
 static const char *name;
 
@@ -136,22 +136,9 @@ static int hears(zhitomrak_store *store, told t)
     return 1;
 }
 
-/* Good settings: corrections of 0, and the hand anemometer of RD 52.04.651's table 1. */
-static zhitomrak_settings good(void)
-{
-    return (zhitomrak_settings){
-        .unit = ZHITOMRAK_UNIT_HPA,
-        .psychrometer = 662,
-        .count = 2,
-        .points = {{8500, 0}, {11000, 0}},
-        .anemometer = {.count = 11,
-                       .points = {{1, 13}, {2, 22}, {3, 31}, {4, 40}, {5, 49}, {6, 58}, {7, 67}, {8, 76}, {9, 85}, {10, 94}, {20, 188}}},
-    };
-}
-
 static int opens(zhitomrak_store *store)
 {
-    zhitomrak_settings settings = good();
+    zhitomrak_settings settings = plain_settings();
     if (zhitomrak_open(store, &settings) == 0)
         return 0;
     printf("interface: good settings are refused\n");
@@ -260,13 +247,13 @@ static int opened_as(const char *what, zhitomrak_settings settings, uint32_t num
 
 static int openings(void)
 {
-    zhitomrak_settings settings = good();
+    zhitomrak_settings settings = plain_settings();
     for (size_t i = 0; i < sizeof certificates / sizeof certificates[0]; i++) {
         settings.anemometer = certificates[i].anemometer;
         if (opened_as(certificates[i].what, settings, certificates[i].number))
             return 1;
     }
-    settings = good();
+    settings = plain_settings();
     for (int i = 0; i < ZHITOMRAK_ANEMOMETER_MAX_POINTS; i++)
         settings.anemometer.points[i] = (zhitomrak_anemometer_point){i, 2 * i};
     settings.anemometer.count = 20;
@@ -374,7 +361,7 @@ static int entries(void)
     if (notes(&store, (entered){{1101, 10, 9900, 200, 60}, 8, 0, 0, 0}) || notes(&store, (entered){{1100, 10, 9900, 200, 60}, 19, 0, 0, 1}))
         return 1;
     /* a ship without a hand anemometer */
-    zhitomrak_settings none = good();
+    zhitomrak_settings none = plain_settings();
     none.anemometer = (zhitomrak_anemometer){0};
     if (zhitomrak_open(&store, &none) != 0 || pairs(&store, 3, 1000, 0.0f, 350.0f, 0))
         return 1;

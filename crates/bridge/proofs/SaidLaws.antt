@@ -1,13 +1,17 @@
--- What is said of an answer: its refusal, where it has a number, and else its figures. Assumes nothing.
+-- What is said of an answer: its refusal, where it has a number, and else its figures; and that a sentence stands there whole, with zeros
+-- behind it. Assumes nothing.
 use mathlib.Core.Path.{_≡_, sym, ap, subst}
 use mathlib.Core.Bool.{Bool, cond}
-use mathlib.Core.List.{List}
-use Prim.Native.Nat.{ℕ}
+use mathlib.Core.List.{List, _++_}
+use Prim.Native.Nat.{ℕ, _<_}
+use native.Mathlib.Omega.{arith}
+use lib.ListN.{length, drop, replicate}
 use borrow.Author.Tests.{eq-eqb, ne-eqb}
 use Rattle.text.specs.Text.{Put}
+use Rattle.text.proofs.PutLaws.{put-front}
 use Rattle.spoken.specs.Refusals.{refusalText}
 use Rattle.told.specs.declared.Refusal.{Refusal}
-use Rattle.bridge.specs.Sentences.{refusedText, saidOr}
+use Rattle.bridge.specs.Sentences.{SENTENCE, Says, refusedText, saidOr}
 
 -- a text that is put is put under its other name
 pub put-as : {b b₁ xs ys : List ℕ} {at k : ℕ} → ys ≡ xs → Put b b₁ at ys k → Put b b₁ at xs k
@@ -29,3 +33,8 @@ module _ (r : Refusal) where
 
   pub is-given : (figures : List ℕ) → r .number ≡ 0 → figures ≡ saidOr r figures
   is-given figures e = ap (λ (b : Bool). cond b figures (refusedText r)) (sym (eq-eqb (r .number) 0 e))
+
+-- A SENTENCE THAT FITS, AS ALL DO (proofs/FitLaws of `spoken`), STANDS THERE WHOLE, WITH ZEROS BEHIND IT, AND ITS LENGTH IS TOLD.
+pub said-whole : (sentence after : List ℕ) (r : ℕ) → length sentence < SENTENCE → Says sentence after r
+    → (after ≡ sentence ++ drop (length sentence) (replicate SENTENCE 0)) × (r ≡ length sentence)
+said-whole sentence after r fits said = put-front said (omega (arith, fits))

@@ -19,11 +19,12 @@ pub record SettingsAs (s s′ before after : List ℕ) (r : ℕ) : Type 0 where
   pub sheet : after ≡ cond (isStore s) (sheetOf s) before
   pub block : s′ ≡ s
 
--- A record, lent as words, was to be put into the file that the first n bytes of the buffer `before` are, and was taken out of it.
+-- A record, lent as words, was to be put into the file that the first n bytes of the buffer `before` are; the buffer is `after` then.
 pub record PlacedAs (rule : ℕ → ℤ) (n : ℕ) (words before after : List ℕ) (r : PlaceTold) : Type 0 where
   pub answer : r ≡ placeIn (sized (placing rule (recordAt words 0) n before))
   pub bytes : after ≡ leftBy before (placing rule (recordAt words 0) n before)
 
+-- The record of a kind and a minute was to be taken out of that file.
 pub record TakenAs (rule : ℕ → ℤ) (n kind minute : ℕ) (before after : List ℕ) (r : PlaceTold) : Type 0 where
   pub answer : r ≡ placeIn (sized (taking rule minute kind n before))
   pub bytes : after ≡ leftBy before (taking rule minute kind n before)

@@ -1,5 +1,5 @@
 // The station at a prompt: one command a line from standard input, one answer a line to standard output. Text becomes a command in
-// `command` and an answer text in `answer`, records and messages are `desk`'s; here is what reads, calls and writes.
+// `command` and an answer text in `answer`, records and messages are `desk`'s, the log is `logbook`'s; here is what reads, calls and writes.
 ghost use mathlib.Core.Path.{_≡_};
 use anemometer::Note;
 use block::Store;

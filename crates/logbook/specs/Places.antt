@@ -1,4 +1,4 @@
--- The desk's own places: records laid as words, and the records of a file in places of an array.
+-- The logbook's own places: records laid as words, and the records of a file in places of an array.
 use mathlib.Core.Path.{_≡_}
 use mathlib.Core.List.{List}
 use Prim.Native.Nat.{ℕ, _*_, _≤_, _<_}

@@ -1,4 +1,4 @@
--- A record put in its place in a watch file that stands in a lent buffer.
+-- A record put in its place in a watch file that stands in a lent buffer, and one taken out.
 use mathlib.Core.Path.{_≡_}
 use mathlib.Core.Bool.{Bool, false, _&&_, cond}
 use mathlib.Core.List.{List, [], _∷_}
@@ -67,6 +67,7 @@ takenIn rule minute kind room (refused place) = refused (brokenAt place)
 takenIn rule minute kind room (given rs) =
     cond (kindRight kind && stands (rank minute kind) rs) (writingAll rule room (without (rank minute kind) rs)) (refused (numbered NO_RECORD []))
 
+-- The first n bytes of a buffer are the old file, as where one is placed.
 abbrev pub taking : (ℕ → ℤ) → ℕ → ℕ → ℕ → List ℕ → Answer Numbered (List ℕ)
 taking rule minute kind n before = takenIn rule minute kind (length before) (reading rule (take n before))
 

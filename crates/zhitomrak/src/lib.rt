@@ -95,7 +95,7 @@ pub extern "C" fn zhitomrak_wind(store: &Store, minute: u32) -> WindTold
 }
 
 // Humidity at a minute: vapour pressure, saturation and deficit in hundredths of hPa, relative humidity in percent, dew point in
-// tenths of °C; refusals 5, 11, 12, 13 and 15. (7 only of a block that has a store's mark and that no opening made.)
+// tenths of °C; refusals 5, 11, 12, 13, 20, 21, 22 and 15. (7 only of a block that has a store's mark and that no opening made.)
 #[no_mangle]
 pub extern "C" fn zhitomrak_humidity(store: &Store, minute: u32) -> HumidityTold
     ensures { λ r. ⌜ AnsweredAs asked.humidity (now (store .entry)) (now (store .exit)) minute r ⌝ }
