@@ -1,0 +1,301 @@
+//! The tool's commands and their words, once for the command line, where each is told the watch's folder, and once for the prompt,
+//! which has it.
+
+use clap::builder::PossibleValuesParser;
+use clap::{Arg, ArgAction, Command};
+
+use crate::answers::QUESTIONS;
+use crate::hand::INSTRUMENTS;
+use crate::plot::SUBJECTS;
+
+/// Where a command is given.
+#[derive(Clone, Copy, Debug, PartialEq, Eq)]
+pub enum Place {
+    CommandLine,
+    Prompt,
+}
+
+const WHEN: &str = "A minute, as 1081; a time, as 18:01 or 2026-11-16T18:01; or `now`. Times are UTC, and need an epoch in station.toml";
+const STRETCH: &str = "A minute, as 1081, a time, as 18:01 or 2026-11-16T18:01, or a stretch, as 900..1081. Without it the newest minute";
+
+const EXIT: &str = "Exit status: 0 done, 1 refused by one of the station's numbers (`zhitomrak why NUMBER`), 2 not understood, 3 could not be done.";
+
+fn arg(name: &'static str, help: &'static str) -> Arg {
+    Arg::new(name).required(true).help(help)
+}
+
+fn flag(name: &'static str, help: &'static str) -> Arg {
+    Arg::new(name)
+        .long(name)
+        .action(ArgAction::SetTrue)
+        .help(help)
+}
+
+fn question() -> Arg {
+    arg("QUESTION", "What is asked")
+        .value_parser(PossibleValuesParser::new(QUESTIONS.map(|(name, _)| name)))
+}
+
+/// How answers are shown.
+fn forms() -> [Arg; 2] {
+    [
+        flag("json", "For programs: one JSON object a line").conflicts_with("raw"),
+        flag(
+            "raw",
+            "The console's line: whole numbers of the last place kept",
+        ),
+    ]
+}
+
+fn replace() -> Arg {
+    flag("replace", "Replaces what is there")
+}
+
+/// A command on a watch.
+fn on_watch(place: Place, name: &'static str, about: &'static str) -> Command {
+    let command = Command::new(name).about(about).allow_negative_numbers(true);
+    match place {
+        Place::CommandLine => command.arg(arg("FOLDER", "The watch's folder")),
+        Place::Prompt => command,
+    }
+}
+
+/// The questions, and what the numbers of their console's lines are.
+const SCALES: &str = "\
+pressure   hPa at sea level                 --raw: P MINUTE PRESSURE, tenths of hPa
+tendency   its change in three hours        --raw: T MINUTE CHANGE ABSENT, tenths of hPa; minutes between without a reading
+wind       the true wind, m/s and degrees   --raw: W MINUTE SPEED DIRECTION, tenths of m/s; 1 to 360, 0 in a calm
+humidity   by the psychrometer              --raw: H MINUTE E SATURATION DEFICIT RELATIVE DEW, hundredths of hPa; %; tenths of °C
+
+A minute that is missing is refused, and never filled: refused 11, with the channel and the minute.";
+
+fn ask(place: Place) -> Command {
+    on_watch(
+        place,
+        "ask",
+        "Asks for pressure, tendency, wind or humidity",
+    )
+    .arg(question())
+    .arg(Arg::new("WHEN").help(STRETCH))
+    .args(forms())
+    .after_help(SCALES)
+}
+
+fn status(place: Place) -> Command {
+    on_watch(
+        place,
+        "status",
+        "Shows of each instrument the newest minute, the last value, what is kept, and the gaps",
+    )
+    .arg(flag("gaps", "All gaps, and not only the newest"))
+    .arg(flag("json", "For programs: one JSON object"))
+}
+
+fn reading(place: Place) -> Command {
+    let instruments = PossibleValuesParser::new(INSTRUMENTS.map(|instrument| instrument.name));
+    on_watch(
+        place,
+        "reading",
+        "Enters a reading by hand, as if its instrument had sent it",
+    )
+    .arg(arg("INSTRUMENT", "Which instrument").value_parser(instruments))
+    .arg(arg("WHEN", WHEN))
+    .arg(arg("VALUE", "What it shows, in the unit below").allow_hyphen_values(true))
+    .arg(
+        Arg::new("SECOND")
+            .help("Degrees for wind and motion; water, ice or unknown for the wet bulb")
+            .allow_hyphen_values(true),
+    )
+    .after_help(
+        "barometer    hPa, or mm Hg where station.toml says so   reading barometer 1081 1004.2\n\
+             wheelhouse   °C                                         reading wheelhouse 1081 18.5\n\
+             wind         apparent, m/s; degrees from the bow        reading wind 1080 8.4 29\n\
+             motion       knots; course in degrees                   reading motion 1080 12.5 260\n\
+             dry          °C                                         reading dry 1080 15.0\n\
+             wet          °C; water (if left out), ice or unknown    reading wet 1080 -3.2 ice\n\n\
+             A minute is kept once, and must be later than the instrument's newest.",
+    )
+}
+
+fn dial(place: Place) -> Command {
+    on_watch(place, "dial", "Enters a wind by the hand anemometer")
+        .arg(arg("WHEN", WHEN))
+        .arg(arg("DIRECTION", "Where the wind comes from by the compass, degrees"))
+        .arg(arg("FIRST", "The dial before, 0 to 9999"))
+        .arg(arg("SECOND", "The dial after"))
+        .arg(arg("SECONDS", "The seconds between them, 1 to 600"))
+        .after_help("dial 600 300 9940 80 60   at minute 600 from 300°, the dial from 9940 past 9999 to 80 in 60 seconds\n\nThe ship's course of that minute has to be there.")
+}
+
+fn log(place: Place) -> Command {
+    on_watch(place, "log", "Asks, and keeps the answer in the watch's log")
+        .arg(question())
+        .arg(Arg::new("WHEN").help(STRETCH))
+        .arg(replace())
+        .after_help("The log has sheets of 48 records, `log-1.watch` and on in the watch's folder; a full one begins the next.")
+}
+
+fn show(place: Place) -> Command {
+    on_watch(place, "show", "Shows the log").args(forms())
+}
+
+fn drop(place: Place) -> Command {
+    on_watch(place, "drop", "Takes a record out of the log")
+        .arg(question())
+        .arg(arg("WHEN", WHEN))
+}
+
+fn save(place: Place) -> Command {
+    on_watch(
+        place,
+        "save",
+        "Saves the log as a watch file: whole, or not at all",
+    )
+    .arg(arg("FILE", "The watch file"))
+    .arg(
+        Arg::new("sheet")
+            .long("sheet")
+            .value_name("N")
+            .value_parser(clap::value_parser!(usize))
+            .help("Which sheet, where the log has several"),
+    )
+    .arg(replace())
+}
+
+fn load(place: Place) -> Command {
+    on_watch(
+        place,
+        "load",
+        "Puts the records of a watch file into the log",
+    )
+    .arg(arg("FILE", "The watch file"))
+    .arg(replace())
+}
+
+fn list() -> Command {
+    Command::new("list")
+        .about("Lists a watch file")
+        .arg(arg("FILE", "The watch file, or - for standard input"))
+        .args(forms())
+}
+
+fn plot(place: Place) -> Command {
+    let subjects = PossibleValuesParser::new(SUBJECTS.map(|(name, _)| name));
+    on_watch(place, "plot", "Draws the barometer, the wind or humidity, here or as a picture; gaps are gaps, and named")
+        .arg(arg("SUBJECT", "What is drawn").value_parser(subjects))
+        .arg(Arg::new("WHEN").help("A stretch of minutes or times, as 400..1081. Without it what is kept, 256 minutes"))
+        .arg(Arg::new("output").short('o').long("output").value_name("FILE.svg").help("The picture's file; without it the terminal"))
+        .arg(flag("ascii", "In the terminal, with plain letters alone"))
+        .arg(replace())
+        .after_help(
+            "barometer   its readings, and an arrow with the tendency at each full hour and at the end, where one can be given\n\
+             wind        the true wind, and arrows the way it blows\n\
+             humidity    relative humidity, dry bulb and dew point",
+        )
+}
+
+fn why() -> Command {
+    Command::new("why")
+        .about("Tells what a refusal's number means, and what to do")
+        .arg(arg("NUMBER", "The number").value_parser(clap::value_parser!(u32)))
+}
+
+fn settings(place: Place) -> Command {
+    on_watch(
+        place,
+        "settings",
+        "Shows the settings that the watch was begun with, as a station.toml",
+    )
+}
+
+fn keep(place: Place) -> Command {
+    let from = Arg::new("from")
+        .value_name("FILE|DEVICE|-")
+        .help("Where messages come from: a file, a device, or - for standard input");
+    let from = match place {
+        Place::CommandLine => from.long("from").required(true),
+        Place::Prompt => from.required(true),
+    };
+    on_watch(place, "keep", "Hears messages of 16 bytes, each written to the journal before it is heard")
+        .arg(from)
+        .arg(flag("verbose", "Tells each message when it is on the disk and heard").short('v'))
+        .arg(flag("raw", "The counts as one line, and nothing else"))
+        .arg(
+            Arg::new("at-a-time")
+                .long("at-a-time")
+                .value_name("N")
+                .default_value("4096")
+                .value_parser(clap::value_parser!(u16).range(1..=4096))
+                .help("How many messages are written at a time, where so many are there"),
+        )
+        .after_help(
+            "Bytes are cut into messages of 16 (docs/FORMAT.md). From a device it goes on until Ctrl-C. Several may keep one watch:\n\
+             one from each device, and entries by hand besides.",
+        )
+}
+
+/// The commands of a place.
+pub fn all(place: Place) -> Command {
+    let line = place == Place::CommandLine;
+    let mut command = Command::new("zhitomrak")
+        .about("A ship's weather station whose every figure is proved: keeps a watch, answers, draws, and loses nothing")
+        .version(env!("CARGO_PKG_VERSION"))
+        .subcommand_required(true)
+        .arg_required_else_help(line)
+        .no_binary_name(!line);
+    if line {
+        command = command
+            .subcommand(
+                Command::new("init")
+                    .about("Begins a watch: a folder with its settings and an empty journal")
+                    .arg(arg("FOLDER", "The folder that is made"))
+                    .arg(
+                        Arg::new("settings")
+                            .long("settings")
+                            .value_name("FILE")
+                            .required(true)
+                            .help("The station.toml to begin with"),
+                    ),
+            )
+            .after_help(EXIT);
+    } else {
+        command = command
+            .disable_version_flag(true)
+            .help_template("{subcommands}\n  quit      Ends, as Ctrl-D does\n\n`help COMMAND` says more of one. pressure, tendency, wind and humidity may stand without `ask`.")
+            .subcommand(Command::new("quit").alias("exit").hide(true));
+    }
+    command = command
+        .subcommand(keep(place))
+        .subcommand(ask(place))
+        .subcommand(status(place))
+        .subcommand(plot(place))
+        .subcommand(reading(place))
+        .subcommand(dial(place))
+        .subcommand(log(place))
+        .subcommand(show(place))
+        .subcommand(drop(place))
+        .subcommand(save(place))
+        .subcommand(load(place))
+        .subcommand(list())
+        .subcommand(settings(place))
+        .subcommand(why());
+    if line {
+        command = command.subcommand(on_watch(
+            place,
+            "shell",
+            "The same commands at a prompt, with history and completion",
+        ));
+    }
+    command
+}
+
+#[cfg(test)]
+mod tests {
+    use super::*;
+
+    #[test]
+    fn commands_are_well_formed() {
+        all(Place::CommandLine).debug_assert();
+        all(Place::Prompt).debug_assert();
+    }
+}

@@ -1,0 +1,656 @@
+//! The journal of a watch: the settings, then every message and entry that came, in order, bad ones included.
+//!
+//! It is a script of the proved console, `console <journal` answers each line again. Behind each group of lines stands a line
+//! `#= SUM COUNT`: the CRC-32 of the group's bytes, and how many messages and entries there are up to it. A group is written, sum and
+//! all, and is on the disk before anything in it is heard or acknowledged.
+//!
+//! What stands behind the last sum was never acknowledged. Whole lines of it are kept all the same; a line that is cut is set aside
+//! by the next one who writes. A group whose sum is not that of its bytes is damaged: nothing of it is heard, so its minutes are
+//! missing and said to be.
+
+use std::fmt::Write as _;
+use std::fs::{File, OpenOptions, TryLockError};
+use std::io::{self, Read, Seek, SeekFrom, Write};
+use std::path::{Path, PathBuf};
+use std::thread::sleep;
+use std::time::{Duration, Instant};
+
+use zhitomrak::{
+    AnemometerCertificate, AnemometerPoint, Certificate, Entry, Point, Refused, Settings, Store,
+    Unit,
+};
+
+use crate::fault::{cannot, fault, words, Result};
+use crate::progress::Progress;
+
+/// The first line of a journal; its last word is the form's number.
+const HEAD: &str = "# zhitomrak journal 1";
+
+/// How many lines have one sum at the most: damage costs no more than these.
+const GROUP: usize = 256;
+
+/// How many bytes are read at a time.
+const CHUNK: usize = 1 << 20;
+
+/// A line of a journal.
+#[derive(Clone, Debug, PartialEq)]
+pub enum Sent {
+    Opening(Box<Settings>),
+    /// The first `length` bytes.
+    Message {
+        bytes: [u8; 16],
+        length: usize,
+    },
+    Entry(Entry),
+}
+
+impl Sent {
+    /// The messages that bytes are, cut at 16; the last may be short.
+    pub fn messages(bytes: &[u8]) -> impl Iterator<Item = Sent> + '_ {
+        bytes.chunks(16).map(|piece| {
+            let mut bytes = [0; 16];
+            bytes[..piece.len()].copy_from_slice(piece);
+            Sent::Message {
+                bytes,
+                length: piece.len(),
+            }
+        })
+    }
+
+    /// Sends it to a store. (An opening does nothing to one that is open.)
+    pub fn send(&self, store: &mut Store) -> std::result::Result<(), Refused> {
+        match self {
+            Sent::Opening(_) => Ok(()),
+            Sent::Message { bytes, length } => store.hear(&bytes[..*length]),
+            Sent::Entry(entry) => store.note(*entry),
+        }
+    }
+
+    /// Its line, as the console reads it.
+    fn put(&self, text: &mut String) {
+        match self {
+            Sent::Opening(settings) => put_opening(text, settings),
+            Sent::Message { bytes, length } => {
+                text.push_str("hear ");
+                for byte in &bytes[..*length] {
+                    for half in [byte >> 4, byte & 15] {
+                        text.push(char::from(b"0123456789abcdef"[usize::from(half)]));
+                    }
+                }
+                text.push('\n');
+            }
+            Sent::Entry(e) => {
+                let _ = writeln!(
+                    text,
+                    "note {} {} {} {} {}",
+                    e.minute, e.direction, e.first, e.second, e.seconds
+                );
+            }
+        }
+    }
+
+    /// What a line says, as [`Sent::put`] writes it; none where it is no such line.
+    fn of(line: &[u8]) -> Option<Sent> {
+        let line = std::str::from_utf8(line).ok()?;
+        let (verb, rest) = line.split_once(' ')?;
+        match verb {
+            "hear" => {
+                let mut bytes = [0; 16];
+                let length = rest.len() / 2;
+                if rest.len() % 2 != 0 || length > 16 {
+                    return None;
+                }
+                unhex(rest.as_bytes(), &mut bytes[..length])
+                    .then_some(Sent::Message { bytes, length })
+            }
+            "note" => {
+                let numbers = rest
+                    .split(' ')
+                    .map(|word| word.parse().ok())
+                    .collect::<Option<Vec<u32>>>()?;
+                let [minute, direction, first, second, seconds] = numbers[..] else {
+                    return None;
+                };
+                Some(Sent::Entry(Entry {
+                    minute,
+                    direction,
+                    first,
+                    second,
+                    seconds,
+                }))
+            }
+            "open" => opening(rest).map(|settings| Sent::Opening(Box::new(settings))),
+            _ => None,
+        }
+    }
+}
+
+/// `open hPa 120 0 -2 662 8500:0 11000:0`, and behind `anemometer` that certificate.
+fn put_opening(text: &mut String, settings: &Settings) {
+    let unit = match settings.unit {
+        Unit::Hectopascals => "hPa",
+        Unit::MillimetresOfMercury => "mmHg",
+    };
+    let (h, d, c, a) = (
+        settings.height,
+        settings.difference,
+        settings.coefficient,
+        settings.psychrometer,
+    );
+    let _ = write!(text, "open {unit} {h} {d} {c} {a}");
+    for point in settings.certificate.as_slice() {
+        let _ = write!(text, " {}:{}", point.reading, point.correction);
+    }
+    if !settings.anemometer.as_slice().is_empty() {
+        text.push_str(" anemometer");
+    }
+    for point in settings.anemometer.as_slice() {
+        let _ = write!(text, " {}:{}", point.rate, point.speed);
+    }
+    text.push('\n');
+}
+
+/// The settings that the words behind `open` say.
+fn opening(words: &str) -> Option<Settings> {
+    fn points<'a, P: From<(i32, i32)>>(words: impl Iterator<Item = &'a str>) -> Option<Vec<P>> {
+        words
+            .map(|word| {
+                let (first, second) = word.split_once(':')?;
+                Some(P::from((first.parse().ok()?, second.parse().ok()?)))
+            })
+            .collect()
+    }
+    let mut words = words.split(' ');
+    let unit = match words.next()? {
+        "hPa" => Unit::Hectopascals,
+        "mmHg" => Unit::MillimetresOfMercury,
+        _ => return None,
+    };
+    let mut number = || words.next()?.parse().ok();
+    let (height, difference, coefficient, psychrometer) =
+        (number()?, number()?, number()?, number()?);
+    let certificate: Vec<Point> = points(words.by_ref().take_while(|&word| word != "anemometer"))?;
+    let anemometer: Vec<AnemometerPoint> = points(words)?;
+    Some(Settings {
+        unit,
+        height,
+        difference,
+        coefficient,
+        psychrometer,
+        certificate: Certificate::new(&certificate),
+        anemometer: AnemometerCertificate::new(&anemometer),
+    })
+}
+
+/// What each byte says as a digit in hex; 255 where it is none.
+const DIGITS: [u8; 256] = {
+    let mut table = [255; 256];
+    let mut n = 0;
+    while n < 16 {
+        table[b"0123456789abcdef"[n as usize] as usize] = n;
+        n += 1;
+    }
+    table
+};
+
+/// Bytes from two digits in hex each; whether all were digits.
+#[inline]
+fn unhex(digits: &[u8], bytes: &mut [u8]) -> bool {
+    let mut wrong = 0;
+    for (to, pair) in bytes.iter_mut().zip(digits.chunks_exact(2)) {
+        let (high, low) = (DIGITS[usize::from(pair[0])], DIGITS[usize::from(pair[1])]);
+        wrong |= high | low;
+        *to = high << 4 | low & 15;
+    }
+    wrong < 16
+}
+
+/// The line of a whole message, of 16 bytes: its length with the line's end.
+const WHOLE: usize = 38;
+
+/// The lines up to a sum, as far as they are read.
+#[derive(Default)]
+struct Group {
+    sent: Vec<Sent>,
+    lines: u64,
+    /// Whether each line said something that a journal says.
+    sound: bool,
+    /// The bytes read.
+    length: usize,
+}
+
+/// What a sum says, and whether it is that of the bytes.
+struct Sum {
+    count: u64,
+    right: bool,
+}
+
+impl Group {
+    /// Reads the lines at the start of the bytes, up to a sum and with it; no sum where the bytes end before one does.
+    fn read(&mut self, bytes: &[u8]) -> Option<Sum> {
+        self.sent.clear();
+        (self.lines, self.sound, self.length) = (0, true, 0);
+        loop {
+            let rest = &bytes[self.length..];
+            let mut message = [0; 16];
+            if rest.len() >= WHOLE
+                && rest.starts_with(b"hear ")
+                && rest[WHOLE - 1] == b'\n'
+                && unhex(&rest[5..WHOLE - 1], &mut message)
+            {
+                self.sent.push(Sent::Message {
+                    bytes: message,
+                    length: 16,
+                });
+                self.lines += 1;
+                self.length += WHOLE;
+                continue;
+            }
+            let end = rest.iter().position(|&byte| byte == b'\n')?;
+            let line = &rest[..end];
+            if let Some(said) = line.strip_prefix(b"#= ") {
+                let sum = sum_of(said).map(|(sum, count)| Sum {
+                    count,
+                    right: self.sound && sum == crc32fast::hash(&bytes[..self.length]),
+                });
+                if sum.is_some() {
+                    self.lines += 1;
+                    self.length += end + 1;
+                    return sum;
+                }
+                self.sound = false;
+            } else if !line.starts_with(b"#") {
+                match Sent::of(line) {
+                    Some(sent) => self.sent.push(sent),
+                    None => self.sound = false,
+                }
+            }
+            self.lines += 1;
+            self.length += end + 1;
+        }
+    }
+}
+
+/// `5f3a9c01 2454`.
+fn sum_of(said: &[u8]) -> Option<(u32, u64)> {
+    let (sum, count) = std::str::from_utf8(said).ok()?.split_once(' ')?;
+    let digits = |text: &str| !text.is_empty() && text.bytes().all(|b| b.is_ascii_hexdigit());
+    if sum.len() != 8 || !digits(sum) || !digits(count) {
+        return None;
+    }
+    Some((u32::from_str_radix(sum, 16).ok()?, count.parse().ok()?))
+}
+
+/// Groups of lines, each with its sum, the first behind `count` messages and entries.
+fn groups(head: &str, sent: &[Sent], mut count: u64) -> String {
+    let mut text = String::with_capacity(head.len() + sent.len() * (WHOLE + 1) + 64);
+    for (index, group) in sent.chunks(GROUP).enumerate() {
+        let start = text.len();
+        if index == 0 {
+            text.push_str(head);
+        }
+        for one in group {
+            one.put(&mut text);
+            count += u64::from(!matches!(one, Sent::Opening(_)));
+        }
+        let sum = crc32fast::hash(&text.as_bytes()[start..]);
+        let _ = writeln!(text, "#= {sum:08x} {count}");
+    }
+    text
+}
+
+/// The first lines of a journal: what it is, and the settings.
+pub fn head(settings: &Settings) -> String {
+    let opening = Sent::Opening(Box::new(*settings));
+    groups(&format!("{HEAD}\n"), &[opening], 0)
+}
+
+/// What the next start says of a journal, where there is something to say.
+#[derive(Clone, Debug, PartialEq)]
+pub enum Found {
+    /// Lines whose sum is not theirs, from the first to the last.
+    Damaged { first: u64, last: u64 },
+    /// So many messages and entries are not there that a sum counted, before a line; or too many are.
+    Miscounted { line: u64 },
+    /// Whole lines behind the last sum.
+    Adopted { count: usize },
+    /// What is cut, behind the last line; set aside in a file where that could be done.
+    Torn {
+        bytes: Vec<u8>,
+        aside: Option<PathBuf>,
+    },
+}
+
+impl Found {
+    /// As a person reads it.
+    pub fn words(&self, journal: &Path) -> String {
+        let name = journal.display();
+        match self {
+            Found::Damaged { first, last } => format!(
+                "{name}: lines {first} to {last} are damaged and were passed over; what they said is missing"
+            ),
+            Found::Miscounted { line } => {
+                format!("{name}: messages or entries are missing, or too many, before line {line}")
+            }
+            Found::Adopted { count } => format!(
+                "{name}: the last {count} written before the tool was stopped were not acknowledged yet; they are kept"
+            ),
+            Found::Torn { bytes, aside } => {
+                let shown = String::from_utf8_lossy(&bytes[..bytes.len().min(50)]);
+                let what = format!(
+                    "{name}: it ends in a line that was cut, {} bytes, `{}`; it was never acknowledged, and is not heard",
+                    bytes.len(),
+                    shown.escape_debug()
+                );
+                match aside {
+                    Some(path) => format!("{what}; it is set aside in {}", path.display()),
+                    None => what,
+                }
+            }
+        }
+    }
+}
+
+/// What stands behind the last sum.
+#[derive(Default)]
+struct Tail {
+    whole: Vec<Sent>,
+    /// The bytes and the lines of what is whole, and their sum.
+    length: usize,
+    lines: u64,
+    sum: u32,
+    rest: Vec<u8>,
+}
+
+/// A journal, read up to a place.
+pub struct Journal {
+    path: PathBuf,
+    file: File,
+    /// How many bytes, lines, and messages and entries were read.
+    place: u64,
+    line: u64,
+    count: u64,
+    /// Whether a damaged group may hide how many there are.
+    unsure: bool,
+    found: Vec<Found>,
+}
+
+/// How a journal is opened.
+#[derive(Clone, Copy, Debug, PartialEq, Eq)]
+pub enum Access {
+    Read,
+    Write,
+}
+
+impl Journal {
+    /// Opens a journal, and reads nothing yet.
+    pub fn open(path: &Path, access: Access) -> Result<Journal> {
+        let what = match access {
+            Access::Read => "read",
+            Access::Write => "write to",
+        };
+        let writes = access == Access::Write;
+        let file = OpenOptions::new()
+            .read(true)
+            .append(writes)
+            .open(path)
+            .map_err(cannot(what, path))?;
+        if !file.metadata().map_err(cannot("read", path))?.is_file() {
+            return Err(fault!(
+                "{} is no journal: it is no ordinary file",
+                path.display()
+            ));
+        }
+        let path = path.to_path_buf();
+        Ok(Journal {
+            path,
+            file,
+            place: 0,
+            line: 0,
+            count: 0,
+            unsure: false,
+            found: Vec::new(),
+        })
+    }
+
+    pub fn path(&self) -> &Path {
+        &self.path
+    }
+
+    /// How many messages and entries it holds, as far as it was read.
+    pub fn count(&self) -> u64 {
+        self.count
+    }
+
+    /// What there was to say since this was last asked.
+    pub fn take_found(&mut self) -> Vec<Found> {
+        std::mem::take(&mut self.found)
+    }
+
+    /// Takes the lock, and waits for another that has it; a second of that is told.
+    fn lock(&self, exclusive: bool, patience: Option<Duration>) -> Result<bool> {
+        let began = Instant::now();
+        let mut told = false;
+        loop {
+            let tried = if exclusive {
+                self.file.try_lock()
+            } else {
+                self.file.try_lock_shared()
+            };
+            match tried {
+                Ok(()) => return Ok(true),
+                Err(TryLockError::Error(error)) => return Err(cannot("lock", &self.path)(error)),
+                Err(TryLockError::WouldBlock) => {}
+            }
+            let waited = began.elapsed();
+            if patience.is_some_and(|most| waited > most) {
+                return Ok(false);
+            }
+            if !told && waited > Duration::from_secs(2) {
+                eprintln!(
+                    "zhitomrak: waits for another that writes to {}",
+                    self.path.display()
+                );
+                told = true;
+            }
+            sleep(Duration::from_millis(5));
+        }
+    }
+
+    fn unlock(&self) {
+        // where it fails the lock goes with the file
+        let _ = self.file.unlock();
+    }
+
+    /// Reads what was written since, and hands on each line of each group that is sound; what stands behind the last sum is given
+    /// back.
+    fn groups(&mut self, each: &mut dyn FnMut(&Sent), progress: &Progress) -> Result<Tail> {
+        let failed = |error| cannot("read", &self.path)(error);
+        (&self.file)
+            .seek(SeekFrom::Start(self.place))
+            .map_err(failed)?;
+        let mut bytes: Vec<u8> = Vec::new();
+        let mut used = 0;
+        let mut group = Group::default();
+        loop {
+            bytes.drain(..used);
+            used = 0;
+            let length = bytes.len();
+            bytes.resize(length + CHUNK, 0);
+            let got = loop {
+                match (&self.file).read(&mut bytes[length..]) {
+                    Err(error) if error.kind() == io::ErrorKind::Interrupted => {}
+                    got => break got.map_err(cannot("read", &self.path))?,
+                }
+            };
+            bytes.truncate(length + got);
+            while let Some(sum) = group.read(&bytes[used..]) {
+                self.take(&group, &sum, each);
+                used += group.length;
+                self.place += group.length as u64;
+                self.line += group.lines;
+            }
+            progress.at(self.place);
+            if got == 0 {
+                break;
+            }
+        }
+        // behind the last sum: the whole lines that are sound, and what follows them
+        let rest = &bytes[used..];
+        let mut tail = Tail::default();
+        while let Some(end) = rest[tail.length..].iter().position(|&byte| byte == b'\n') {
+            let line = &rest[tail.length..tail.length + end];
+            match Sent::of(line) {
+                Some(Sent::Opening(_)) | None => break,
+                Some(sent) => tail.whole.push(sent),
+            }
+            tail.length += end + 1;
+            tail.lines += 1;
+        }
+        tail.sum = crc32fast::hash(&rest[..tail.length]);
+        tail.rest = rest[tail.length..].to_vec();
+        Ok(tail)
+    }
+
+    /// Hands on the lines of a group where its sum is right, and remembers what is not.
+    fn take(&mut self, group: &Group, sum: &Sum, each: &mut dyn FnMut(&Sent)) {
+        if !sum.right {
+            self.found.push(Found::Damaged {
+                first: self.line + 1,
+                last: self.line + group.lines,
+            });
+            self.unsure = true;
+            self.count = sum.count;
+            return;
+        }
+        let openings = group
+            .sent
+            .iter()
+            .filter(|sent| matches!(sent, Sent::Opening(_)))
+            .count();
+        let count = self.count + (group.sent.len() - openings) as u64;
+        if count != sum.count && !self.unsure {
+            self.found.push(Found::Miscounted {
+                line: self.line + group.lines,
+            });
+        }
+        (self.count, self.unsure) = (sum.count, false);
+        group.sent.iter().for_each(each);
+    }
+
+    /// Reads what was written since, for one who only asks: nothing is changed. Whole lines behind the last sum are handed on too,
+    /// unless another is at work on them.
+    pub fn look(&mut self, each: &mut dyn FnMut(&Sent), progress: &Progress) -> Result<()> {
+        // where there are no locks, as on some disks of other machines, one reads without
+        let alone = self
+            .lock(false, Some(Duration::from_secs(2)))
+            .unwrap_or(false);
+        let tail = self.groups(each, progress);
+        if alone {
+            self.unlock();
+        }
+        let tail = tail?;
+        if alone {
+            tail.whole.iter().for_each(each);
+            if !tail.whole.is_empty() {
+                self.found.push(Found::Adopted {
+                    count: tail.whole.len(),
+                });
+            }
+            if !tail.rest.is_empty() {
+                self.found.push(Found::Torn {
+                    bytes: tail.rest,
+                    aside: None,
+                });
+            }
+        }
+        Ok(())
+    }
+
+    /// Reads what was written since, and mends the journal's end; then writes the lines, sum and all, onto the disk. Only then are
+    /// they handed on. Where they cannot be written the journal is as it was.
+    pub fn append(
+        &mut self,
+        sent: &[Sent],
+        each: &mut dyn FnMut(&Sent),
+        progress: &Progress,
+    ) -> Result<()> {
+        self.lock(true, None)?;
+        let done = self.append_locked(sent, each, progress);
+        self.unlock();
+        done
+    }
+
+    fn append_locked(
+        &mut self,
+        sent: &[Sent],
+        each: &mut dyn FnMut(&Sent),
+        progress: &Progress,
+    ) -> Result<()> {
+        let tail = self.groups(each, progress)?;
+        self.mend(tail, each)?;
+        if !sent.is_empty() {
+            let text = groups("", sent, self.count);
+            self.write(text.as_bytes())?;
+            self.count += sent.len() as u64;
+            sent.iter().for_each(each);
+        }
+        Ok(())
+    }
+
+    /// Writes bytes at the place, where the file ends, and onto the disk; or the file ends there, as before.
+    fn write(&mut self, bytes: &[u8]) -> Result<()> {
+        let written = (&self.file)
+            .write_all(bytes)
+            .and_then(|()| self.file.sync_data());
+        if let Err(error) = written {
+            let back = match self.file.set_len(self.place) {
+                Ok(()) => "what came last is not kept",
+                Err(_) => "what came last may be kept in part, which the next start mends",
+            };
+            return Err(fault!(
+                "cannot write to {}: {}; {back}",
+                self.path.display(),
+                words(&error)
+            ));
+        }
+        self.place += bytes.len() as u64;
+        self.line += bytes.iter().filter(|&&byte| byte == b'\n').count() as u64;
+        Ok(())
+    }
+
+    /// Gives whole lines behind the last sum theirs, and sets aside what is cut.
+    fn mend(&mut self, tail: Tail, each: &mut dyn FnMut(&Sent)) -> Result<()> {
+        if !tail.rest.is_empty() {
+            let aside = self.path.with_file_name("torn");
+            let mut file = OpenOptions::new()
+                .create(true)
+                .append(true)
+                .open(&aside)
+                .map_err(cannot("write", &aside))?;
+            let mut bytes = tail.rest.clone();
+            bytes.push(b'\n');
+            file.write_all(&bytes)
+                .and_then(|()| file.sync_all())
+                .map_err(cannot("write", &aside))?;
+            let end = self.place + tail.length as u64;
+            self.file.set_len(end).map_err(cannot("mend", &self.path))?;
+            self.found.push(Found::Torn {
+                bytes: tail.rest,
+                aside: Some(aside),
+            });
+        }
+        if !tail.whole.is_empty() {
+            let count = self.count + tail.whole.len() as u64;
+            self.place += tail.length as u64;
+            self.line += tail.lines;
+            self.write(format!("#= {:08x} {count}\n", tail.sum).as_bytes())?;
+            self.count = count;
+            tail.whole.iter().for_each(each);
+            self.found.push(Found::Adopted {
+                count: tail.whole.len(),
+            });
+        }
+        Ok(())
+    }
+}

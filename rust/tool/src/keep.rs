@@ -1,0 +1,233 @@
+//! Keeping a watch: messages come in from a file or a device, are written to the journal, and are heard.
+
+use std::fs::{self, File};
+use std::io::{self, Read, Write};
+use std::path::Path;
+use std::sync::{Arc, Mutex, MutexGuard};
+
+use zhitomrak::Refused;
+
+use crate::fault::{cannot, counted, fault, words, Fault, Result};
+use crate::hand::instrument;
+use crate::journal::Sent;
+use crate::progress::Progress;
+use crate::sheet::refusal;
+use crate::watch::{Outcome, Watch};
+
+/// How many messages came to what: heard at 0, and by the numbers of refusals.
+#[derive(Clone)]
+pub struct Counts([u64; 256]);
+
+impl Counts {
+    pub fn new() -> Counts {
+        Counts([0; 256])
+    }
+
+    fn add(&mut self, came_to: &Outcome) {
+        let number = came_to.as_ref().map_or_else(|why| why.number(), |()| 0);
+        self.0[number as usize % 256] += 1;
+    }
+
+    fn refused(&self) -> impl Iterator<Item = (u32, u64)> + '_ {
+        (1..)
+            .zip(self.0[1..].iter().copied())
+            .filter(|&(_, count)| count > 0)
+    }
+
+    /// `heard 1128, refused 8: 1320, refused 19: 6`.
+    fn raw(&self) -> String {
+        let refused: String = self
+            .refused()
+            .map(|(number, count)| format!(", refused {number}: {count}"))
+            .collect();
+        format!("heard {}{refused}\n", self.0[0])
+    }
+
+    /// As a person reads it.
+    fn in_words(&self) -> String {
+        let refused: u64 = self.refused().map(|(_, count)| count).sum();
+        let mut text = format!(
+            "{}: {} heard, {refused} refused\n",
+            counted(self.0[0] + refused, "message"),
+            self.0[0]
+        );
+        for (number, count) in self.refused() {
+            text += &format!(
+                "{count:>10} refused {number}: {}\n",
+                Refused::text_of(number).unwrap_or_default()
+            );
+        }
+        text
+    }
+}
+
+/// How it is kept.
+#[derive(Clone, Copy)]
+pub struct Manner {
+    pub verbose: bool,
+    pub raw: bool,
+    /// How many messages are written at a time.
+    pub at_a_time: usize,
+}
+
+impl Manner {
+    /// The counts, as they are wanted.
+    fn told(&self, counts: &Counts) -> String {
+        if self.raw {
+            counts.raw()
+        } else {
+            counts.in_words()
+        }
+    }
+}
+
+/// What a message is, as far as its bytes say: `minute 1081, barometer`.
+fn name(watch: &Watch, bytes: &[u8]) -> String {
+    match bytes {
+        [channel, _, _, _, a, b, c, d, _, _, _, _, _, _, _, _] => {
+            let minute = u32::from_le_bytes([*a, *b, *c, *d]);
+            let title = match instrument(u32::from(*channel)) {
+                Some(instrument) => instrument.title.to_string(),
+                None => format!("channel {channel}"),
+            };
+            format!("{}, {title}", watch.clock().name(minute))
+        }
+        _ => counted(bytes.len(), "byte"),
+    }
+}
+
+/// What a message came to, in words: what is kept of it, or why it is not.
+fn told(watch: &Watch, bytes: &[u8], came_to: &Outcome) -> String {
+    let what = name(watch, bytes);
+    match came_to {
+        Err(why) => format!("{what}: {}", refusal(*why)),
+        Ok(()) => {
+            let minute = u32::from_le_bytes([bytes[4], bytes[5], bytes[6], bytes[7]]);
+            let kept = instrument(u32::from(bytes[0]))
+                .and_then(|it| watch.store().reading(it.channel, minute).ok());
+            match kept {
+                Some(reading) => format!("{what}: heard, {reading}"),
+                // a later one of the same time has passed it by already
+                None => format!("{what}: heard"),
+            }
+        }
+    }
+}
+
+/// Where messages come from, and how many bytes they are where that is known.
+fn source(from: &str) -> Result<(Box<dyn Read>, u64)> {
+    if from == "-" {
+        return Ok((Box::new(io::stdin()), 0));
+    }
+    let path = Path::new(from);
+    let there = fs::metadata(path).map_err(cannot("read", path))?;
+    if there.is_dir() {
+        return Err(fault!(
+            "cannot read {from}: it is a folder; messages come from a file or a device"
+        ));
+    }
+    let file = File::open(path).map_err(cannot("read", path))?;
+    Ok((
+        Box::new(file),
+        if there.is_file() { there.len() } else { 0 },
+    ))
+}
+
+/// What was kept so far, and whether all of it was told.
+struct So {
+    counts: Counts,
+    out: Box<dyn Write + Send>,
+}
+
+fn lock(so: &Mutex<So>) -> MutexGuard<'_, So> {
+    so.lock().unwrap_or_else(|poisoned| poisoned.into_inner())
+}
+
+/// Hears everything that comes, up to its end; or until Ctrl-C, or until it is told to end, between two messages. The counts are told
+/// in any case.
+pub fn keep(
+    watch: &mut Watch,
+    from: &str,
+    manner: Manner,
+    out: Box<dyn Write + Send>,
+) -> Result<()> {
+    let (mut bytes, total) = source(from)?;
+    let so = Arc::new(Mutex::new(So {
+        counts: Counts::new(),
+        out,
+    }));
+    let at_end = Arc::clone(&so);
+    // at a prompt there is a handler from the second time on; Ctrl-C then ends as it does elsewhere
+    let _ = ctrlc::set_handler(move || {
+        // nothing is half written while this has the lock
+        let mut so = lock(&at_end);
+        let text = manner.told(&so.counts);
+        let told = so
+            .out
+            .write_all(text.as_bytes())
+            .and_then(|()| so.out.flush());
+        std::process::exit(if told.is_ok() { 0 } else { 3 });
+    });
+    let progress = Progress::new("hears the messages", total);
+    let done = hear(watch, &mut *bytes, from, manner, &so, &progress);
+    drop(progress);
+    let mut so = lock(&so);
+    let text = manner.told(&so.counts);
+    let out = &mut so.out;
+    let told = out.write_all(text.as_bytes()).and_then(|()| out.flush());
+    done?;
+    told.map_err(cannot_tell)
+}
+
+/// Why an answer could not be given.
+pub fn cannot_tell(error: io::Error) -> Fault {
+    if error.kind() == io::ErrorKind::BrokenPipe {
+        return Fault(String::new());
+    }
+    fault!("cannot write the answer: {}", words(&error))
+}
+
+fn hear(
+    watch: &mut Watch,
+    from: &mut dyn Read,
+    name: &str,
+    manner: Manner,
+    so: &Mutex<So>,
+    progress: &Progress,
+) -> Result<()> {
+    let mut bytes = vec![0; manner.at_a_time * 16];
+    let mut filled = 0;
+    let mut done = 0;
+    loop {
+        let got = match from.read(&mut bytes[filled..]) {
+            Err(error) if error.kind() == io::ErrorKind::Interrupted => continue,
+            got => got.map_err(cannot("read", Path::new(name)))?,
+        };
+        filled += got;
+        // at the end what is too short for a message is one all the same, and is refused
+        let whole = if got == 0 {
+            filled
+        } else {
+            filled - filled % 16
+        };
+        let sent: Vec<Sent> = Sent::messages(&bytes[..whole]).collect();
+        if !sent.is_empty() {
+            let mut so = lock(so);
+            let came_to = watch.keep(&sent)?;
+            for (message, came_to) in bytes[..whole].chunks(16).zip(&came_to) {
+                so.counts.add(came_to);
+                if manner.verbose {
+                    writeln!(so.out, "{}", told(watch, message, came_to)).map_err(cannot_tell)?;
+                }
+            }
+            so.out.flush().map_err(cannot_tell)?;
+        }
+        if got == 0 {
+            return Ok(());
+        }
+        bytes.copy_within(whole..filled, 0);
+        filled -= whole;
+        done += got as u64;
+        progress.at(done);
+    }
+}

@@ -1,0 +1,53 @@
+//! `zhitomrak`: the station for people. It keeps a watch as a folder, answers, draws, and loses nothing that came.
+//!
+//! Every figure, sentence and refusal of the station is the proved library's, through the safe crate. What is here reads, writes and
+//! shows: `watch` and `journal` keep what came, `sheet` reads station.toml, `answers`, `status` and `why` tell, `log` and `files` keep
+//! what was logged, `plot` and `picture` draw, `shell` is the prompt.
+
+#![forbid(unsafe_code)]
+
+mod answers;
+mod commands;
+mod fault;
+mod files;
+mod hand;
+mod journal;
+mod keep;
+mod log;
+mod minutes;
+mod picture;
+mod plot;
+mod progress;
+mod run;
+mod sheet;
+mod shell;
+mod status;
+mod watch;
+mod why;
+
+use std::io::{self, BufWriter, Write};
+use std::process::ExitCode;
+
+use commands::{all, Place};
+use fault::Fault;
+use run::{run, Desk, Done};
+
+fn main() -> ExitCode {
+    let told = all(Place::CommandLine).get_matches();
+    let Some((name, told)) = told.subcommand() else {
+        return ExitCode::from(2);
+    };
+    let mut out = BufWriter::new(io::stdout());
+    let done = run(name, told, &mut Desk::new(None), &mut out);
+    let flushed = out.flush().map_err(keep::cannot_tell);
+    match done.and_then(|done| flushed.map(|()| done)) {
+        Ok(Done::Refused) => ExitCode::from(1),
+        Ok(_) => ExitCode::SUCCESS,
+        Err(Fault(words)) => {
+            for line in words.lines() {
+                eprintln!("zhitomrak: {line}");
+            }
+            ExitCode::from(3)
+        }
+    }
+}

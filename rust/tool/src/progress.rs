@@ -1,0 +1,64 @@
+//! How far something long has come, on standard error: a bar in a terminal, elsewhere a line every few seconds.
+
+use std::cell::Cell;
+use std::io::IsTerminal;
+use std::time::{Duration, Instant};
+
+use indicatif::{ProgressBar, ProgressStyle};
+
+/// What takes this many bytes or fewer is done before a person could read of it.
+const SHORT: u64 = 8 << 20;
+
+pub struct Progress {
+    what: &'static str,
+    total: u64,
+    bar: Option<ProgressBar>,
+    told: Cell<Instant>,
+}
+
+impl Progress {
+    /// Of something of so many bytes. Nothing is shown of what is short.
+    pub fn new(what: &'static str, total: u64) -> Progress {
+        let bar = (total > SHORT && std::io::stderr().is_terminal()).then(|| {
+            let bar = ProgressBar::new(total);
+            if let Ok(style) =
+                ProgressStyle::with_template("{msg} {wide_bar} {percent} %, {eta} left")
+            {
+                bar.set_style(style);
+            }
+            bar.set_message(what);
+            bar
+        });
+        Progress {
+            what,
+            total,
+            bar,
+            told: Cell::new(Instant::now()),
+        }
+    }
+
+    /// Nothing is shown.
+    pub fn silent() -> Progress {
+        Progress::new("", 0)
+    }
+
+    /// So many bytes are done.
+    pub fn at(&self, done: u64) {
+        match &self.bar {
+            Some(bar) => bar.set_position(done),
+            None if self.total > SHORT && self.told.get().elapsed() > Duration::from_secs(3) => {
+                eprintln!("zhitomrak: {}: {} %", self.what, done * 100 / self.total);
+                self.told.set(Instant::now());
+            }
+            None => {}
+        }
+    }
+}
+
+impl Drop for Progress {
+    fn drop(&mut self) {
+        if let Some(bar) = &self.bar {
+            bar.finish_and_clear();
+        }
+    }
+}

@@ -1,0 +1,545 @@
+//! What each command does, on the command line and at the prompt alike.
+
+use std::io::{self, IsTerminal, Read, Write};
+use std::path::{Path, PathBuf};
+
+use clap::ArgMatches;
+use serde_json::json;
+use zhitomrak::watchfile::{self, Record, WatchFile, LISTING_MAX_BYTES, MAX_BYTES};
+use zhitomrak::{Entry, Kind};
+
+use crate::answers::{self, Form};
+use crate::fault::{cannot, counted, fault, Result};
+use crate::files::{self, Old};
+use crate::hand;
+use crate::journal::{Access, Sent};
+use crate::keep::{self, cannot_tell, Manner};
+use crate::log::{self, Log, Put};
+use crate::minutes::{Clock, Stretch};
+use crate::sheet::{self, refusal};
+use crate::status;
+use crate::watch::{self, Outcome, Watch};
+use crate::{picture, plot, shell, why};
+
+/// How a command ended, where it could be done.
+#[derive(Clone, Copy, Debug, PartialEq, Eq, PartialOrd, Ord)]
+pub enum Done {
+    Well,
+    /// The station refused, by a number.
+    Refused,
+    /// At the prompt: no more commands.
+    Quit,
+}
+
+/// What a command works on: the prompt's watch, or the one whose folder it is told.
+pub struct Desk<'a> {
+    at_prompt: Option<&'a mut Watch>,
+    opened: Option<Watch>,
+}
+
+impl<'a> Desk<'a> {
+    pub fn new(at_prompt: Option<&'a mut Watch>) -> Desk<'a> {
+        Desk {
+            at_prompt,
+            opened: None,
+        }
+    }
+
+    fn folder(&self, told: &ArgMatches) -> PathBuf {
+        match &self.at_prompt {
+            Some(watch) => watch.folder().to_path_buf(),
+            None => path(told, "FOLDER"),
+        }
+    }
+
+    /// The watch, with everything that was written so far.
+    fn watch(&mut self, told: &ArgMatches, access: Access) -> Result<&mut Watch> {
+        match &mut self.at_prompt {
+            Some(watch) => {
+                watch.catch_up()?;
+                Ok(watch)
+            }
+            None => Ok(self
+                .opened
+                .insert(Watch::open(&path(told, "FOLDER"), access)?)),
+        }
+    }
+
+    /// The watch's clock, without its journal.
+    fn clock(&self, told: &ArgMatches) -> Clock {
+        match &self.at_prompt {
+            Some(watch) => watch.clock(),
+            None => watch::clock(&path(told, "FOLDER")),
+        }
+    }
+}
+
+fn word<'a>(told: &'a ArgMatches, name: &str) -> &'a str {
+    told.get_one::<String>(name).map_or("", String::as_str)
+}
+
+fn path(told: &ArgMatches, name: &str) -> PathBuf {
+    PathBuf::from(word(told, name))
+}
+
+fn form(told: &ArgMatches) -> Form {
+    match (told.get_flag("json"), told.get_flag("raw")) {
+        (true, _) => Form::Json,
+        (_, true) => Form::Raw,
+        _ => Form::Words,
+    }
+}
+
+fn old(told: &ArgMatches) -> Old {
+    if told.get_flag("replace") {
+        Old::Replaced
+    } else {
+        Old::Stays
+    }
+}
+
+fn kind(told: &ArgMatches) -> Result<Kind> {
+    let name = word(told, "QUESTION");
+    answers::question(name).ok_or_else(|| fault!("`{name}` is no question"))
+}
+
+macro_rules! tell {
+    ($out:expr, $($words:tt)*) => { writeln!($out, $($words)*).map_err(cannot_tell) };
+}
+
+/// Does what a command says; what it answers goes to `out`.
+pub fn run(name: &str, told: &ArgMatches, desk: &mut Desk, out: &mut dyn Write) -> Result<Done> {
+    match name {
+        "init" => init(told, out),
+        "keep" => keep(told, desk),
+        "ask" => ask(told, desk, out),
+        "status" => show_status(told, desk, out),
+        "plot" => draw(told, desk, out),
+        "reading" => reading(told, desk, out),
+        "dial" => dial(told, desk, out),
+        "log" => put(told, desk, out),
+        "show" => show(told, desk, out),
+        "drop" => take_out(told, desk, out),
+        "save" => save(told, desk, out),
+        "load" => load(told, desk, out),
+        "list" => list(told, out),
+        "settings" => settings(told, desk, out),
+        "why" => {
+            let number = told.get_one::<u32>("NUMBER").copied().unwrap_or(0);
+            tell!(out, "{}", why::why(number)?.trim_end())?;
+            Ok(Done::Well)
+        }
+        "shell" => shell::shell(&path(told, "FOLDER")),
+        "quit" => Ok(Done::Quit),
+        _ => Err(fault!("`{name}` is no command")),
+    }
+}
+
+fn init(told: &ArgMatches, out: &mut dyn Write) -> Result<Done> {
+    let folder = path(told, "FOLDER");
+    watch::init(&folder, &path(told, "settings"))?;
+    tell!(
+        out,
+        "{} is a watch now: its settings are in station.toml, and its journal is empty",
+        folder.display()
+    )?;
+    Ok(Done::Well)
+}
+
+fn keep(told: &ArgMatches, desk: &mut Desk) -> Result<Done> {
+    let manner = Manner {
+        verbose: told.get_flag("verbose"),
+        raw: told.get_flag("raw"),
+        at_a_time: told
+            .get_one::<u16>("at-a-time")
+            .copied()
+            .unwrap_or(4096)
+            .into(),
+    };
+    let watch = desk.watch(told, Access::Write)?;
+    keep::keep(watch, word(told, "from"), manner, Box::new(io::stdout()))?;
+    Ok(Done::Well)
+}
+
+/// The minutes that are asked for; without any the newest of the channel that the question is about.
+fn minutes(told: &ArgMatches, watch: &Watch, kind: Kind) -> Result<Stretch> {
+    match told.get_one::<String>("WHEN") {
+        Some(when) => watch.clock().stretch(when, watch.newest_of_all()),
+        None => match watch.newest(answers::channel(kind)) {
+            Some(newest) => Ok(Stretch {
+                first: newest,
+                last: newest,
+            }),
+            None => Err(fault!(
+                "nothing is heard yet of what that is worked from: say the minute"
+            )),
+        },
+    }
+}
+
+fn ask(told: &ArgMatches, desk: &mut Desk, out: &mut dyn Write) -> Result<Done> {
+    let (kind, form) = (kind(told)?, form(told));
+    let watch = desk.watch(told, Access::Read)?;
+    let Stretch { first, last } = minutes(told, watch, kind)?;
+    let mut done = Done::Well;
+    for minute in first..=last {
+        let answer = answers::ask(watch.store(), kind, minute);
+        tell!(
+            out,
+            "{}",
+            answers::show(form, &watch.clock(), kind, minute, &answer)
+        )?;
+        done = done.max(if answer.is_ok() {
+            Done::Well
+        } else {
+            Done::Refused
+        });
+    }
+    Ok(done)
+}
+
+fn show_status(told: &ArgMatches, desk: &mut Desk, out: &mut dyn Write) -> Result<Done> {
+    let watch = desk.watch(told, Access::Read)?;
+    let text = if told.get_flag("json") {
+        status::for_programs(watch).map(|object| format!("{object}\n"))
+    } else {
+        status::in_words(watch, told.get_flag("gaps"))
+    };
+    let text = text.map_err(|why| fault!("{why}"))?;
+    out.write_all(text.as_bytes()).map_err(cannot_tell)?;
+    Ok(Done::Well)
+}
+
+/// What became of something that was entered.
+fn entered(out: &mut dyn Write, what: &str, kept: &str, came_to: Outcome) -> Result<Done> {
+    match came_to {
+        Ok(()) => tell!(out, "{what}: {kept} is kept").map(|()| Done::Well),
+        Err(why) => tell!(out, "{what}: {}", refusal(why)).map(|()| Done::Refused),
+    }
+}
+
+/// What is kept of a channel's minute, as the library says it.
+fn kept(watch: &Watch, channel: zhitomrak::Channel, minute: u32) -> String {
+    watch
+        .store()
+        .reading(channel, minute)
+        .map_or_else(|why| why.to_string(), |reading| reading.to_string())
+}
+
+fn reading(told: &ArgMatches, desk: &mut Desk, out: &mut dyn Write) -> Result<Done> {
+    let watch = desk.watch(told, Access::Write)?;
+    let minute = watch
+        .clock()
+        .minute(word(told, "WHEN"), watch.newest_of_all())?;
+    let second = told.get_one::<String>("SECOND").map(String::as_str);
+    let (instrument, message) = hand::message(
+        word(told, "INSTRUMENT"),
+        minute,
+        word(told, "VALUE"),
+        second,
+    )?;
+    let came_to = watch.keep_one(Sent::messages(message.as_bytes()))?;
+    let what = format!("{}, {}", watch.clock().name(minute), instrument.title);
+    entered(
+        out,
+        &what,
+        &kept(watch, instrument.channel, minute),
+        came_to,
+    )
+}
+
+fn dial(told: &ArgMatches, desk: &mut Desk, out: &mut dyn Write) -> Result<Done> {
+    let number = |name: &str| {
+        let text = word(told, name);
+        text.parse::<u32>().map_err(|_| {
+            fault!("`{text}` is no whole number, as the dial, the compass and the watch show")
+        })
+    };
+    let (direction, first, second, seconds) = (
+        number("DIRECTION")?,
+        number("FIRST")?,
+        number("SECOND")?,
+        number("SECONDS")?,
+    );
+    let watch = desk.watch(told, Access::Write)?;
+    let minute = watch
+        .clock()
+        .minute(word(told, "WHEN"), watch.newest_of_all())?;
+    let entry = Entry {
+        minute,
+        direction,
+        first,
+        second,
+        seconds,
+    };
+    let came_to = watch.keep_one([Sent::Entry(entry)])?;
+    let what = format!("{}, hand anemometer", watch.clock().name(minute));
+    entered(
+        out,
+        &what,
+        &kept(watch, zhitomrak::Channel::ApparentWind, minute),
+        came_to,
+    )
+}
+
+fn put(told: &ArgMatches, desk: &mut Desk, out: &mut dyn Write) -> Result<Done> {
+    let (kind, old) = (kind(told)?, old(told));
+    let watch = desk.watch(told, Access::Read)?;
+    let Stretch { first, last } = minutes(told, watch, kind)?;
+    let mut log = Log::open(watch.folder())?;
+    let mut done = Done::Well;
+    for minute in first..=last {
+        let answer = answers::ask(watch.store(), kind, minute);
+        let shown = answers::show(Form::Words, &watch.clock(), kind, minute, &answer);
+        let Ok(body) = answer else {
+            tell!(out, "{shown}")?;
+            done = Done::Refused;
+            continue;
+        };
+        let became = log.put(&Record::new(minute, body), old)?;
+        tell!(out, "{shown}; {}", in_words(&became))?;
+    }
+    Ok(done)
+}
+
+/// What became of a record, in words.
+fn in_words(put: &Put) -> String {
+    match put {
+        Put::Placed { sheet, new: true } if *sheet > 1 => {
+            format!("logged, the first of log-{sheet}.watch, since the sheet before it is full")
+        }
+        Put::Placed { .. } => "logged".into(),
+        Put::There { .. } => "it was in the log already".into(),
+        Put::Replaced { .. } => "logged, in place of another".into(),
+    }
+}
+
+/// A record as a person reads it: `minute 1080 (..): 8.4 m/s from 29° (..)`.
+fn record_in_words(clock: &Clock, record: &Record) -> String {
+    match record.body() {
+        Some(body) => format!(
+            "{}: {}",
+            clock.name(record.minute()),
+            answers::in_words(&Ok(body))
+        ),
+        None => record.to_string(),
+    }
+}
+
+/// The records of a watch file in a form.
+fn records(file: &WatchFile, form: Form, clock: &Clock, out: &mut dyn Write) -> Result<()> {
+    match form {
+        Form::Raw => write!(out, "{file}").map_err(cannot_tell),
+        Form::Words => file
+            .into_iter()
+            .try_for_each(|record| tell!(out, "{}", record_in_words(clock, &record))),
+        Form::Json => file.into_iter().try_for_each(|record| match record.body() {
+            Some(body) => tell!(
+                out,
+                "{}",
+                answers::for_programs(clock, body.kind(), record.minute(), &Ok(body))
+            ),
+            None => Ok(()),
+        }),
+    }
+}
+
+fn show(told: &ArgMatches, desk: &mut Desk, out: &mut dyn Write) -> Result<Done> {
+    let (clock, form) = (desk.clock(told), form(told));
+    let log = Log::open(&desk.folder(told))?;
+    if log.sheets().is_empty() && form == Form::Words {
+        tell!(out, "the log is empty")?;
+    }
+    for sheet in log.sheets() {
+        if form == Form::Words {
+            tell!(
+                out,
+                "log-{}.watch, {} of 48 records",
+                sheet.number,
+                sheet.file.records().len()
+            )?;
+        }
+        records(&sheet.file, form, &clock, out)?;
+    }
+    Ok(Done::Well)
+}
+
+fn take_out(told: &ArgMatches, desk: &mut Desk, out: &mut dyn Write) -> Result<Done> {
+    let (clock, kind) = (desk.clock(told), kind(told)?);
+    let mut log = Log::open(&desk.folder(told))?;
+    let newest = log.records().last().map(|(_, record)| record.minute());
+    let minute = clock.minute(word(told, "WHEN"), newest)?;
+    match log.take_out(kind, minute)? {
+        Some((_, record)) => tell!(
+            out,
+            "taken out of the log: {}",
+            record_in_words(&clock, &record)
+        )
+        .map(|()| Done::Well),
+        None => {
+            let why = zhitomrak::Refused::NoRecord;
+            tell!(out, "{}: {}", clock.name(minute), refusal(why)).map(|()| Done::Refused)
+        }
+    }
+}
+
+/// A file of a person's own: not one that a watch lives by.
+fn own(path: &Path) -> Result<()> {
+    let (parent, name) = files::parts(path)?;
+    let name = name.to_string_lossy();
+    let a_watch_s = parent.join(watch::JOURNAL).exists()
+        && (["station.toml", "journal", "torn", "history"].contains(&&*name)
+            || (name.starts_with("log-") && name.ends_with(".watch")));
+    if a_watch_s {
+        return Err(fault!(
+            "{} is one of a watch's own files, and stays as it is: choose another name",
+            path.display()
+        ));
+    }
+    Ok(())
+}
+
+fn save(told: &ArgMatches, desk: &mut Desk, out: &mut dyn Write) -> Result<Done> {
+    let to = path(told, "FILE");
+    own(&to)?;
+    let log = Log::open(&desk.folder(told))?;
+    let sheets = log.sheets();
+    let sheet = match (told.get_one::<usize>("sheet"), sheets) {
+        (_, []) => return Err(fault!("the log is empty: there is nothing to save")),
+        (Some(&number), _) => sheets
+            .iter()
+            .find(|sheet| sheet.number == number)
+            .ok_or_else(|| fault!("the log has no sheet {number}"))?,
+        (None, [only]) => only,
+        (None, [.., last]) => {
+            let count = sheets.len();
+            return Err(fault!(
+                "the log has {count} sheets, up to {}: say which with --sheet N; `show` shows them",
+                last.number
+            ));
+        }
+    };
+    files::save(&to, sheet.file.as_bytes(), old(told))?;
+    tell!(
+        out,
+        "saved to {}: {}",
+        to.display(),
+        counted(sheet.file.records().len(), "record")
+    )?;
+    Ok(Done::Well)
+}
+
+fn load(told: &ArgMatches, desk: &mut Desk, out: &mut dyn Write) -> Result<Done> {
+    let from = path(told, "FILE");
+    let file = log::read(&from)?;
+    let mut log = Log::open(&desk.folder(told))?;
+    let (clock, old) = (desk.clock(told), old(told));
+    let (mut new, mut there, mut other) = (0, 0, 0);
+    for record in &file {
+        match log.put(&record, old) {
+            Ok(Put::There { .. }) => there += 1,
+            Ok(_) => new += 1,
+            Err(why) => {
+                other += 1;
+                tell!(
+                    out,
+                    "not loaded: {}: {why}",
+                    record_in_words(&clock, &record)
+                )?;
+            }
+        }
+    }
+    tell!(
+        out,
+        "{}: {} put into the log, {there} there before, {other} not loaded",
+        from.display(),
+        counted(new, "record")
+    )?;
+    if other > 0 {
+        return Err(fault!("not all of {} is in the log", from.display()));
+    }
+    Ok(Done::Well)
+}
+
+fn list(told: &ArgMatches, out: &mut dyn Write) -> Result<Done> {
+    let from = path(told, "FILE");
+    let bytes = if from.as_os_str() == "-" {
+        let mut bytes = Vec::new();
+        let most = MAX_BYTES as u64 + 1;
+        io::stdin()
+            .take(most)
+            .read_to_end(&mut bytes)
+            .map_err(cannot("read", Path::new("standard input")))?;
+        bytes
+    } else {
+        files::read(&from, MAX_BYTES as u64 + 1)?
+    };
+    let form = form(told);
+    match (WatchFile::from_bytes(&bytes), form) {
+        (Ok(file), _) => records(&file, form, &Clock::default(), out).map(|()| Done::Well),
+        (Err(_), Form::Raw) => {
+            let mut room = [0; LISTING_MAX_BYTES];
+            let text = watchfile::list(&bytes, &mut room).map_err(|why| fault!("{why}"))?;
+            out.write_all(text)
+                .map_err(cannot_tell)
+                .map(|()| Done::Refused)
+        }
+        (Err(why), Form::Json) => tell!(
+            out,
+            "{}",
+            json!({ "refused": answers::refused(why), "sentence": why.to_string() })
+        )
+        .map(|()| Done::Refused),
+        (Err(why), Form::Words) => {
+            tell!(out, "{}: {}", from.display(), refusal(why)).map(|()| Done::Refused)
+        }
+    }
+}
+
+/// Whether the terminal's letters are Unicode's, by the environment.
+fn unicode() -> bool {
+    let set = |name| std::env::var(name).ok().filter(|value| !value.is_empty());
+    let locale = set("LC_ALL")
+        .or_else(|| set("LC_CTYPE"))
+        .or_else(|| set("LANG"));
+    locale.is_some_and(|locale| locale.to_lowercase().contains("utf"))
+}
+
+fn draw(told: &ArgMatches, desk: &mut Desk, out: &mut dyn Write) -> Result<Done> {
+    let when = told.get_one::<String>("WHEN").map(String::as_str);
+    let (picture, _) = plot::picture(&desk.folder(told), word(told, "SUBJECT"), when)?;
+    let Some(to) = told.get_one::<String>("output").map(PathBuf::from) else {
+        let size = io::stdout()
+            .is_terminal()
+            .then(terminal_size::terminal_size)
+            .flatten();
+        let (columns, rows) = size.map_or((80, 24), |(width, height)| {
+            (usize::from(width.0), usize::from(height.0))
+        });
+        let rows = rows.saturating_sub(2).clamp(12, 40);
+        let text = picture::terminal(
+            &picture,
+            columns,
+            rows,
+            unicode() && !told.get_flag("ascii"),
+        );
+        out.write_all(text.as_bytes()).map_err(cannot_tell)?;
+        return Ok(Done::Well);
+    };
+    own(&to)?;
+    let text = picture::svg(&picture).map_err(|why| fault!("cannot draw that: {why}"))?;
+    files::save(&to, text.as_bytes(), old(told))?;
+    tell!(out, "drawn to {}", to.display())?;
+    Ok(Done::Well)
+}
+
+fn settings(told: &ArgMatches, desk: &mut Desk, out: &mut dyn Write) -> Result<Done> {
+    let watch = desk.watch(told, Access::Read)?;
+    let settings = watch.store().settings().map_err(|why| fault!("{why}"))?;
+    let text = sheet::write(&sheet::Sheet {
+        settings,
+        epoch: watch.clock().time(0),
+    });
+    out.write_all(text.as_bytes()).map_err(cannot_tell)?;
+    Ok(Done::Well)
+}

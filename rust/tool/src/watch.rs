@@ -1,0 +1,250 @@
+//! A watch: a folder with `station.toml`, the settings as the person wrote them, `journal`, all that came since, and the sheets of the
+//! log. The journal says everything: started again, the tool sends it to an empty store, and that store answers as if it had never
+//! stopped, since answers rest on what was sent and on nothing else (demand 3).
+
+use std::fs;
+use std::io::Write;
+use std::path::{Path, PathBuf};
+
+use zhitomrak::{Channel, Refused, Settings, Store};
+
+use crate::fault::{cannot, fault, Result};
+use crate::files;
+use crate::journal::{self, Access, Journal, Sent};
+use crate::minutes::Clock;
+use crate::progress::Progress;
+use crate::sheet;
+
+/// A watch that was opened.
+pub struct Watch {
+    folder: PathBuf,
+    store: Box<Store>,
+    journal: Journal,
+    clock: Clock,
+    /// Whether the journal has opened the store.
+    open: bool,
+    /// The settings of station.toml, for a journal whose own are damaged.
+    spare: Option<Settings>,
+}
+
+/// What is told of each line that was sent to a store, with what it came to.
+pub type Each<'a> = &'a mut dyn FnMut(&Store, &Sent, Outcome);
+
+/// What a message or an entry came to.
+pub type Outcome = std::result::Result<(), Refused>;
+
+/// The names of a watch's files.
+pub const SHEET: &str = "station.toml";
+pub const JOURNAL: &str = "journal";
+
+/// Makes a watch of a folder that is not there yet, or empty: whole, or not at all.
+pub fn init(folder: &Path, settings: &Path) -> Result<()> {
+    let bytes = files::read(settings, 1 << 20)?;
+    let text = String::from_utf8(bytes)
+        .map_err(|_| fault!("{}: it is no text (UTF-8)", settings.display()))?;
+    let sheet = sheet::read(&settings.display().to_string(), &text)?;
+    if let Ok(there) = fs::symlink_metadata(folder) {
+        let empty =
+            there.is_dir() && fs::read_dir(folder).is_ok_and(|mut files| files.next().is_none());
+        if !empty {
+            return Err(fault!("{} is there already, and was not changed: name a folder that is not, or an empty one", folder.display()));
+        }
+    }
+    let (parent, name) = files::parts(folder)?;
+    let failed = || cannot("make", folder);
+    let new = tempfile::Builder::new()
+        .prefix(&format!(".{}.", name.to_string_lossy()))
+        .suffix(".new")
+        .tempdir_in(parent)
+        .map_err(failed())?;
+    let put = |file: &str, bytes: &[u8]| -> std::io::Result<()> {
+        let mut file = fs::File::create_new(new.path().join(file))?;
+        file.write_all(bytes)?;
+        file.sync_all()
+    };
+    put(SHEET, text.as_bytes()).map_err(failed())?;
+    put(JOURNAL, journal::head(&sheet.settings).as_bytes()).map_err(failed())?;
+    files::as_others(new.path(), 0o777).map_err(failed())?;
+    files::sync_folder(new.path()).map_err(failed())?;
+    fs::rename(new.path(), folder).map_err(failed())?;
+    // it has its name now: nothing is left to be taken away
+    let _ = new.into_path();
+    files::sync_folder(parent).map_err(failed())
+}
+
+/// What a watch's station.toml says.
+fn read_sheet(folder: &Path) -> Result<sheet::Sheet> {
+    let path = folder.join(SHEET);
+    let bytes = files::read(&path, 1 << 20)?;
+    sheet::read(
+        &path.display().to_string(),
+        &String::from_utf8_lossy(&bytes),
+    )
+}
+
+/// A watch's clock, for one who needs nothing else of it.
+pub fn clock(folder: &Path) -> Clock {
+    Clock::new(read_sheet(folder).ok().and_then(|sheet| sheet.epoch))
+}
+
+impl Watch {
+    /// Opens a watch, and sends the whole journal to an empty store; what is found amiss is told on standard error.
+    pub fn open(folder: &Path, access: Access) -> Result<Watch> {
+        Watch::open_with(folder, access, &mut |_, _, _| {})
+    }
+
+    /// The same, and each line is handed on once it was sent.
+    pub fn open_with(folder: &Path, access: Access, each: Each) -> Result<Watch> {
+        let path = folder.join(JOURNAL);
+        let there = fs::metadata(folder).map_err(cannot("open the watch", folder))?;
+        if !there.is_dir() {
+            return Err(fault!("{} is no watch: it is no folder", folder.display()));
+        }
+        if fs::symlink_metadata(&path)
+            .is_err_and(|error| error.kind() == std::io::ErrorKind::NotFound)
+        {
+            return Err(fault!(
+                "{} is no watch: it has no journal; `zhitomrak init` makes one",
+                folder.display()
+            ));
+        }
+        let journal = Journal::open(&path, access)?;
+        let mut watch = Watch {
+            folder: folder.to_path_buf(),
+            store: Box::new(Store::from_words([0; Store::WORDS])),
+            journal,
+            clock: Clock::default(),
+            open: false,
+            spare: None,
+        };
+        watch.read_sheet();
+        let length = fs::metadata(&path).map_err(cannot("read", &path))?.len();
+        watch.go_on(
+            &[],
+            access,
+            each,
+            &Progress::new("replays the journal", length),
+        )?;
+        let Ok(kept) = watch.store.settings() else {
+            return Err(fault!(
+                "{}: it does not begin with the settings of a station",
+                path.display()
+            ));
+        };
+        if watch.spare.is_some_and(|written| written != kept) {
+            let sheet = folder.join(SHEET);
+            eprintln!(
+                "zhitomrak: {} has other settings than this watch was begun with, which it keeps; for new ones begin a new watch",
+                sheet.display()
+            );
+        }
+        Ok(watch)
+    }
+
+    /// The settings of station.toml, and the epoch; where they cannot be read that is told, and minutes have no times.
+    fn read_sheet(&mut self) {
+        match read_sheet(&self.folder) {
+            Ok(sheet) => {
+                self.clock = Clock::new(sheet.epoch);
+                self.spare = Some(sheet.settings);
+            }
+            Err(why) => eprintln!("zhitomrak: {why}\nzhitomrak: the watch keeps the settings it was begun with; minutes have no times"),
+        }
+    }
+
+    /// Takes over what was written since, and with `Access::Write` writes the lines and then sends them.
+    fn go_on(
+        &mut self,
+        sent: &[Sent],
+        access: Access,
+        each: Each,
+        progress: &Progress,
+    ) -> Result<()> {
+        let (store, journal, open, spare) = (
+            &mut self.store,
+            &mut self.journal,
+            &mut self.open,
+            self.spare,
+        );
+        let mut to_store = |sent: &Sent| {
+            if let Sent::Opening(settings) = sent {
+                // a second one would take everything away, and no journal has one
+                if let (false, Ok(opened)) = (*open, Store::open(settings)) {
+                    **store = opened;
+                    *open = true;
+                }
+                return;
+            }
+            if let (false, Some(Ok(opened))) = (*open, spare.as_ref().map(Store::open)) {
+                eprintln!("zhitomrak: the journal's own settings cannot be read; those of station.toml are taken");
+                **store = opened;
+                *open = true;
+            }
+            let came_to = sent.send(store);
+            each(store, sent, came_to);
+        };
+        let done = match access {
+            Access::Read => journal.look(&mut to_store, progress),
+            Access::Write => journal.append(sent, &mut to_store, progress),
+        };
+        for found in self.journal.take_found() {
+            eprintln!("zhitomrak: {}", found.words(self.journal.path()));
+        }
+        done
+    }
+
+    /// Writes what came into the journal, and onto the disk; then the store hears it, behind what others have written since. What
+    /// each came to.
+    pub fn keep(&mut self, sent: &[Sent]) -> Result<Vec<Outcome>> {
+        let mut came_to = Vec::with_capacity(sent.len());
+        self.go_on(
+            sent,
+            Access::Write,
+            &mut |_, _, told| came_to.push(told),
+            &Progress::silent(),
+        )?;
+        // those of others come first
+        Ok(came_to.split_off(came_to.len() - sent.len()))
+    }
+
+    /// The same for a single one.
+    pub fn keep_one(&mut self, sent: impl IntoIterator<Item = Sent>) -> Result<Outcome> {
+        let sent: Vec<Sent> = sent.into_iter().take(1).collect();
+        Ok(self.keep(&sent)?.pop().unwrap_or(Ok(())))
+    }
+
+    /// Takes over what others have written since.
+    pub fn catch_up(&mut self) -> Result<()> {
+        self.go_on(&[], Access::Read, &mut |_, _, _| {}, &Progress::silent())
+    }
+
+    pub fn folder(&self) -> &Path {
+        &self.folder
+    }
+
+    pub fn store(&self) -> &Store {
+        &self.store
+    }
+
+    pub fn clock(&self) -> Clock {
+        self.clock
+    }
+
+    /// How many messages and entries came.
+    pub fn count(&self) -> u64 {
+        self.journal.count()
+    }
+
+    /// The newest minute of a channel.
+    pub fn newest(&self, channel: Channel) -> Option<u32> {
+        self.store.newest(channel).ok().flatten()
+    }
+
+    /// The newest minute of all.
+    pub fn newest_of_all(&self) -> Option<u32> {
+        Channel::ALL
+            .into_iter()
+            .filter_map(|channel| self.newest(channel))
+            .max()
+    }
+}
