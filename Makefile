@@ -17,7 +17,7 @@ library:
 	@if [ ! -e $(LIBRARY) ] || [ -n "$$(find crates crates.txt -newer $(LIBRARY))" ]; then \
 		echo "Proves and builds $(LIBRARY); where nothing is proved yet that takes some minutes."; \
 	fi
-	@rust/library
+	@rust/library tell
 
 lister:
 	@if [ ! -e $(LISTER) ] || [ -n "$$(find crates crates.txt -newer $(LISTER))" ]; then \

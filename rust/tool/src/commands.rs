@@ -261,7 +261,7 @@ pub fn all(place: Place) -> Command {
     } else {
         command = command
             .disable_version_flag(true)
-            .help_template("{subcommands}\n  quit      Ends, as Ctrl-D does\n\n`help COMMAND` says more of one. pressure, tendency, wind and humidity may stand without `ask`.")
+            .help_template("Commands:\n{subcommands}\n  quit      Ends, as Ctrl-D does\n\n`help COMMAND` says more of one. pressure, tendency, wind and humidity may stand without `ask`.")
             .subcommand(Command::new("quit").alias("exit").hide(true));
     }
     command = command

@@ -105,6 +105,18 @@ impl rustyline::highlight::Highlighter for Helper {}
 impl rustyline::validate::Validator for Helper {}
 impl rustyline::Helper for Helper {}
 
+/// What clap says of a wrong line, without its advice for a command line.
+fn in_short(error: &str) -> String {
+    let lines = error
+        .lines()
+        .map(str::trim)
+        .take_while(|line| !line.starts_with("Usage:"));
+    let told: Vec<&str> = lines
+        .filter(|line| !line.is_empty() && !line.starts_with("If you believe"))
+        .collect();
+    told.join("; ").trim_start_matches("error: ").to_string()
+}
+
 /// Does what a line says; what is wrong with it is told.
 fn answer(line: &str, watch: &mut Watch, out: &mut dyn Write) -> Result<Done> {
     let mut words = words(line)?;
@@ -123,8 +135,8 @@ fn answer(line: &str, watch: &mut Watch, out: &mut dyn Write) -> Result<Done> {
             .map_err(cannot_tell)
             .map(|()| Done::Well),
         Err(error) => Err(fault!(
-            "{}",
-            error.to_string().trim_end().trim_start_matches("error: ")
+            "{}; `help` lists the commands",
+            in_short(&error.to_string())
         )),
     }
 }

@@ -62,6 +62,11 @@ impl Scale {
             .collect()
     }
 
+    /// From the lowest tick to the highest, in units of the panel.
+    pub(super) fn span(&self) -> f64 {
+        (self.highest - self.lowest) as f64 * self.step
+    }
+
     /// Where a value stands on the axis: 0 at its foot, 1 at its head.
     pub(super) fn part(&self, value: f64) -> f64 {
         let span = (self.highest - self.lowest) as f64;

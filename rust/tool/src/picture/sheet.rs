@@ -23,7 +23,6 @@ pub(super) struct Sheet<'a> {
 }
 
 /// How a text is set: black and from its left end, unless it says otherwise.
-
 pub(super) struct Lettering {
     size: f64,
     weight: FontStyle,
@@ -61,7 +60,7 @@ impl Lettering {
     }
 
     /// The point is the right end of the text.
-    pub(super) fn to_the_left(mut self) -> Self {
+    pub(super) fn ending(mut self) -> Self {
         self.end = HPos::Right;
         self
     }

@@ -5,7 +5,7 @@ use super::axis::{self, Scale, Tick, MOST_TICKS};
 use super::sheet::{cut, dots, escaped, fine, letters, printable, width_of, Drawn, Point, Sheet};
 use super::{counted, minutes_in, Line, Panel, Picture};
 use plotters::style::RGBColor;
-use std::collections::BTreeSet;
+use std::collections::{BTreeMap, BTreeSet};
 use std::ops::Range;
 
 const WIDTH: f64 = 960.0;
@@ -21,6 +21,9 @@ const BELOW: f64 = 14.0;
 
 /// The narrowest gap that is drawn: its name fits in, turned.
 const NARROWEST_BAND: f64 = 14.0;
+
+/// What a gap is called.
+const NONE: &str = "no reading";
 
 /// The distance of the slanted lines in a band, and of the marks on a second curve.
 const HATCH: f64 = 7.0;
@@ -84,7 +87,7 @@ fn draw_hours(sheet: &Sheet, picture: &Picture, left: f64, foot: f64) -> Drawn {
     for tick in chart.ticks(picture) {
         let x = chart.x(tick.offset);
         let width = width_of(&tick.text, 12.0);
-        let middle = x.min(WIDTH - 2.0 - width / 2.0);
+        let middle = x.min(WIDTH - 2.0 - width / 2.0).max(width / 2.0);
         if middle - width / 2.0 < free {
             continue;
         }
@@ -227,7 +230,7 @@ impl<'a> Chart<'a> {
                 let y = self.y(scale.part(value));
                 sheet.stroke(&[(left, y), (right, y)], GRID, 1.0)?;
                 sheet.stroke(&[(left - 4.0, y), (left, y)], FRAME, 1.0)?;
-                sheet.text(&text, (left - 8.0, y), &letters(12.0).to_the_left())?;
+                sheet.text(&text, (left - 8.0, y), &letters(12.0).ending())?;
             }
         }
         Ok(())
@@ -265,28 +268,32 @@ impl<'a> Chart<'a> {
         sheet.stroke(&corners, FRAME, 1.0)
     }
 
-    /// A line: through each run of neighbouring minutes, a dot for a minute that stands alone.
+    /// A line: through each run of neighbouring minutes, a dot for a minute that stands alone. A
+    /// run too short to be seen as a line gets dots as well.
     fn curve(&self, sheet: &Sheet, line: &Line, place: usize) -> Drawn {
         let colour = CURVES[place.min(1)];
-        let radius = (self.across.per_minute * 0.8).clamp(1.2, 3.0);
-        let mut dotted = BTreeSet::new();
+        let mut dots = BTreeMap::new();
         for run in line.runs(self.picture.minutes()) {
             let points = self.points(line, run);
-            if let [(x, y)] = points[..] {
+            let (wide, high) = extent(&points);
+            if wide < 1.0 {
                 // Dots that fall on the same pixel are drawn once.
-                if dotted.insert((x.round() as i64, y.round() as i64)) {
-                    sheet.dot((x, y), radius, colour)?;
-                }
-            } else {
+                let pixel = |(x, y): Point| (x.round() as i64, y.round() as i64);
+                dots.extend(points.iter().map(|point| (pixel(*point), *point)));
+            }
+            if wide >= 1.0 || high >= 2.0 {
                 sheet.stroke(&points, colour, STROKES[place.min(1)])?;
             }
         }
-        if place == 0 {
-            return Ok(());
-        }
-        self.marks(line)
-            .into_iter()
-            .try_for_each(|at| sheet.ring(at, colour))
+        let radius = (self.across.per_minute * 0.8).clamp(1.2, 3.0);
+        dots.values()
+            .try_for_each(|dot| sheet.dot(*dot, radius, colour))?;
+        let rings = if place == 0 {
+            Vec::new()
+        } else {
+            self.marks(line)
+        };
+        rings.iter().try_for_each(|at| sheet.ring(*at, colour))
     }
 
     /// The points of a run that can be told apart: of the minutes of one pixel the first, the
@@ -323,7 +330,7 @@ impl<'a> Chart<'a> {
             let (wide, high) = (to - from, self.foot - self.top);
             let whole = gap.len() == self.picture.minutes();
             let ways = if whole {
-                vec![Way::of(false, 16.0, &["no reading"])]
+                vec![Way::of(false, 16.0, &[NONE])]
             } else {
                 self.ways(&gap)
             };
@@ -338,25 +345,25 @@ impl<'a> Chart<'a> {
     fn ways(&self, gap: &Range<usize>) -> Vec<Way> {
         let (first, last) = self.picture.gap_ends(gap);
         let minutes = counted(gap.len(), "minute");
-        let ends = if gap.len() == 1 {
-            first.clone()
-        } else {
-            format!("{first} to {last}")
-        };
-        let none = "no reading";
-        let name = format!("{none} {ends}");
         let to_last = format!("to {last}");
+        let (ends, narrow) = if gap.len() == 1 {
+            (first.clone(), vec![NONE, &first, &minutes])
+        } else {
+            let narrow = vec![NONE, &first, &to_last, &minutes];
+            (format!("{first} {to_last}"), narrow)
+        };
+        let name = format!("{NONE} {ends}");
         let level = |size: f64, lines: &[&str]| Way::of(false, size, lines);
-        let turned = |lines: &[&str]| Way::of(true, 12.0, lines);
+        let turned = |lines: &[&str]| Way::of(true, 11.0, lines);
         vec![
             level(12.0, &[&name, &minutes]),
-            level(12.0, &[none, &ends, &minutes]),
-            level(11.0, &[none, &first, &to_last, &minutes]),
+            level(12.0, &[NONE, &ends, &minutes]),
+            level(11.0, &narrow),
             turned(&[&name, &minutes]),
             turned(&[&name]),
-            turned(&[none, &ends]),
+            turned(&[NONE, &ends]),
             turned(&[&ends]),
-            turned(&[none]),
+            turned(&[NONE]),
         ]
     }
 
@@ -378,7 +385,7 @@ impl<'a> Chart<'a> {
         sheet.text(
             &note,
             (self.across.right, y),
-            &letters(11.0).faint().to_the_left(),
+            &letters(11.0).faint().ending(),
         )
     }
 
@@ -507,6 +514,16 @@ fn draw_arrow(sheet: &Sheet, (x, y): Point, turn: f64) -> Drawn {
     let head = [(0.0, -9.0), (4.5, 0.5), (0.0, -1.5), (-4.5, 0.5)].map(turned);
     sheet.stroke(&[(0.0, -2.0), (0.0, 9.0)].map(turned), ARROW, 1.6)?;
     sheet.shape(&head, ARROW)
+}
+
+/// How far points reach across and down.
+fn extent(points: &[Point]) -> Point {
+    let reach = |of: fn(&Point) -> f64| {
+        let low = points.iter().map(of).fold(f64::INFINITY, f64::min);
+        let high = points.iter().map(of).fold(f64::NEG_INFINITY, f64::max);
+        high - low
+    };
+    (reach(|point| point.0), reach(|point| point.1))
 }
 
 /// The first, the lowest, the highest and the last of points, in their order, each once.

@@ -86,7 +86,7 @@ pub fn terminal(picture: &Picture, columns: usize, rows: usize, unicode: bool) -
         .collect()
 }
 
-/// How the picture is laid out: all charts have the same width and the same height.
+/// How the picture is laid out: all charts have the same width and about the same height.
 struct Sheet<'a> {
     picture: &'a Picture,
     ink: &'a Ink,
@@ -209,7 +209,7 @@ impl<'a> Sheet<'a> {
             let cells: String = cells.into_iter().collect();
             format!("{text:>width$} {side}{cells}", width = self.margin - 2)
         };
-        (0..self.high).map(line).collect()
+        (0..chart.high).map(line).collect()
     }
 
     /// "no reading" in the middle of each gap that has the columns for it: row, column and text.
@@ -218,7 +218,7 @@ impl<'a> Sheet<'a> {
         gaps.map(|gap| chart.columns(&gap))
             .filter(|columns| columns.len() >= NO_READING.len() + 2)
             .map(|columns| columns.start + (columns.len() - NO_READING.len()) / 2)
-            .map(|from| ((self.high - 1) / 2, from, NO_READING))
+            .map(|from| ((chart.high - 1) / 2, from, NO_READING))
             .collect()
     }
 
@@ -324,16 +324,16 @@ struct Chart<'a> {
 
 impl<'a> Chart<'a> {
     fn of(sheet: &Sheet<'a>, panel: &Panel) -> Self {
-        let Sheet {
-            ink, wide, high, ..
-        } = *sheet;
+        let Sheet { ink, wide, .. } = *sheet;
         let minutes = sheet.picture.minutes();
+        let scale = scale(panel, minutes, sheet.high);
+        let high = even(sheet.high, scale.as_ref());
         let mut chart = Chart {
             ink,
             minutes,
             wide,
             high,
-            scale: scale(panel, minutes, high),
+            scale,
             first: Dots::blank(wide * ink.dots.0, high * ink.dots.1),
             second: Dots::blank(wide, high),
             missing: vec![false; wide],
@@ -477,10 +477,18 @@ fn columns_of(gap: &Range<usize>, minutes: usize, wide: usize) -> Range<usize> {
     from..(gap.end * wide / minutes).max(from)
 }
 
-/// The value axis of a chart of so many rows: no two ticks in one row.
+/// The value axis of a chart of at most so many rows: the one that gives a unit the most rows.
 fn scale(panel: &Panel, minutes: usize, high: usize) -> Option<Scale> {
     let most = MOST_TICKS.min(high as i64).max(FEWEST_TICKS);
-    Scale::of(panel, minutes, most)
+    let scales = (FEWEST_TICKS..=most).filter_map(|most| Scale::of(panel, minutes, most));
+    let rows_per_unit = |scale: &Scale| even(high, Some(scale)) as f64 / scale.span();
+    scales.max_by(|one, other| rows_per_unit(one).total_cmp(&rows_per_unit(other)))
+}
+
+/// The most rows, up to `high`, on which the ticks stand evenly.
+fn even(high: usize, scale: Option<&Scale>) -> usize {
+    let spaces = scale.map_or(1, |scale| scale.ticks().len() - 1);
+    high - (high - 1) % spaces
 }
 
 /// The columns that the values of all panels need at the left, with a blank and the axis.
