@@ -1,13 +1,15 @@
-# Builds the library and the lister, and installs them for programs in C: make install PREFIX=/usr/local, make uninstall.
+# Builds the library and the lister, and installs them for programs in C: make install PREFIX=/usr/local, make uninstall. The tool for
+# people is apart, since it needs cargo and the crates that it is made of: make install-tool, make uninstall-tool.
 PREFIX = /usr/local
 DESTDIR =
 
 LIBRARY = target/staticlib/libzhitomrak.a
 LISTER = target/bin/lister
+TOOL = target/tool/zhitomrak
 DOCS = docs/REFUSALS.md docs/FORMAT.md CHANGELOG.md LICENSE
 TO = $(DESTDIR)$(PREFIX)
 
-.PHONY: all library lister install uninstall
+.PHONY: all library lister tool install uninstall install-tool uninstall-tool
 .NOTPARALLEL:
 
 all: library lister
@@ -27,6 +29,9 @@ lister:
 		touch $(LISTER); \
 	fi
 
+tool: library
+	@rust/tool/cargo build
+
 # The version is the header's.
 install: all
 	install -d "$(TO)/bin" "$(TO)/include" "$(TO)/lib/pkgconfig" "$(TO)/share/man/man1" "$(TO)/share/man/man3" \
@@ -45,3 +50,13 @@ uninstall:
 	rm -f "$(TO)/bin/zhitomrak-lister" "$(TO)/include/zhitomrak.h" "$(TO)/lib/libzhitomrak.a" "$(TO)/lib/pkgconfig/zhitomrak.pc" \
 		"$(TO)/share/man/man1/zhitomrak-lister.1" "$(TO)/share/man/man3/zhitomrak.3"
 	rm -rf "$(TO)/share/doc/zhitomrak"
+
+install-tool: tool
+	install -d "$(TO)/bin" "$(TO)/share/man/man1" "$(TO)/share/doc/zhitomrak-tool"
+	install -m 755 $(TOOL) "$(TO)/bin/zhitomrak"
+	install -m 644 man/zhitomrak.1 "$(TO)/share/man/man1/zhitomrak.1"
+	install -m 644 samples/station.toml docs/REFUSALS.md docs/FORMAT.md LICENSE "$(TO)/share/doc/zhitomrak-tool"
+
+uninstall-tool:
+	rm -f "$(TO)/bin/zhitomrak" "$(TO)/share/man/man1/zhitomrak.1"
+	rm -rf "$(TO)/share/doc/zhitomrak-tool"

@@ -167,21 +167,24 @@ impl Watch {
             self.spare,
         );
         let mut to_store = |sent: &Sent| {
-            if let Sent::Opening(settings) = sent {
-                // a second one would take everything away, and no journal has one
-                if let (false, Ok(opened)) = (*open, Store::open(settings)) {
+            // a second opening would take everything away, and no journal has one
+            if !*open {
+                let settings = match sent {
+                    Sent::Opening(settings) => Some(&**settings),
+                    _ => spare.as_ref(),
+                };
+                if let Some(Ok(opened)) = settings.map(Store::open) {
                     **store = opened;
                     *open = true;
+                    if !matches!(sent, Sent::Opening(_)) {
+                        eprintln!("zhitomrak: the journal's own settings cannot be read; those of station.toml are taken");
+                    }
                 }
-                return;
             }
-            if let (false, Some(Ok(opened))) = (*open, spare.as_ref().map(Store::open)) {
-                eprintln!("zhitomrak: the journal's own settings cannot be read; those of station.toml are taken");
-                **store = opened;
-                *open = true;
+            if !matches!(sent, Sent::Opening(_)) {
+                let came_to = sent.send(store);
+                each(store, sent, came_to);
             }
-            let came_to = sent.send(store);
-            each(store, sent, came_to);
         };
         let done = match access {
             Access::Read => journal.look(&mut to_store, progress),
@@ -246,5 +249,73 @@ impl Watch {
             .into_iter()
             .filter_map(|channel| self.newest(channel))
             .max()
+    }
+}
+
+#[cfg(test)]
+mod tests {
+    use super::*;
+    use std::time::Instant;
+    use zhitomrak::{BulbState, Counts, Message};
+
+    /// The messages of so many minutes, six each.
+    fn messages(minutes: u32) -> Vec<u8> {
+        let mut bytes = Vec::new();
+        for minute in 0..minutes {
+            let change = (minute % 97) as f32 * 0.1;
+            for message in [
+                Message::barometer(minute, 1000.0 + change),
+                Message::wheelhouse(minute, 15.0 + change),
+                Message::apparent_wind(minute, change, change * 30.0),
+                Message::ship_motion(minute, 12.5, 260.0),
+                Message::dry_bulb(minute, 10.0 + change),
+                Message::wet_bulb(minute, 8.0 + change, BulbState::Water),
+            ] {
+                bytes.extend_from_slice(message.as_bytes());
+            }
+        }
+        bytes
+    }
+
+    /// `bench/replay`: opening a watch of two million messages beside hearing the same from a bare file, the least of five rounds.
+    #[test]
+    #[ignore = "it measures"]
+    fn replay_beside_the_bare_file() {
+        let folder = tempfile::tempdir().unwrap();
+        let sheet = Path::new(env!("CARGO_MANIFEST_DIR")).join("../../samples/station.toml");
+        let at = folder.path().join("watch");
+        init(&at, &sheet).unwrap();
+        let bytes = messages(333_334);
+        let count = bytes.len() / 16;
+        let bare = folder.path().join("bare");
+        fs::write(&bare, &bytes).unwrap();
+        let mut watch = Watch::open(&at, Access::Write).unwrap();
+        let began = Instant::now();
+        for chunk in bytes.chunks(16 * 4096) {
+            let sent: Vec<Sent> = Sent::messages(chunk).collect();
+            watch.keep(&sent).unwrap();
+        }
+        let kept = began.elapsed();
+        let mut least = [f64::MAX; 2];
+        for _ in 0..5 {
+            let began = Instant::now();
+            let mut store = Store::open(&watch.store().settings().unwrap()).unwrap();
+            let mut counts = Counts::default();
+            store.hear_all(&fs::read(&bare).unwrap(), &mut counts);
+            least[0] = least[0].min(began.elapsed().as_secs_f64());
+            let began = Instant::now();
+            let again = Watch::open(&at, Access::Read).unwrap();
+            least[1] = least[1].min(began.elapsed().as_secs_f64());
+            assert!(again.store() == &store && again.count() == count as u64);
+        }
+        let each = |seconds: f64| seconds / count as f64 * 1e9;
+        println!(
+            "{count} messages: the bare file {:.1} ns each, the journal {:.1}, {:.1} times; {:.0} ms in all; kept in {:.2} s",
+            each(least[0]),
+            each(least[1]),
+            least[1] / least[0],
+            least[1] * 1e3,
+            kept.as_secs_f64()
+        );
     }
 }
