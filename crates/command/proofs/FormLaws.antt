@@ -16,7 +16,7 @@ use Rattle.line.specs.Words.{Word, before, wordsFrom, words, field, more, field
 use Rattle.line.specs.declared.Said.{Said}
 use Rattle.line.specs.declared.Said.the-variants.{Number, NoNumber}
 use Rattle.line.proofs.WordLaws.{WordIs, part-cons, part-length}
-use Rattle.command.specs.Forms.{named, told, Told, ends, behind, letterThen, fieldsTold, picks, says, fits, listTold, leftTold, wordTold, mayEnd, placeOf, lineTold}
+use Rattle.command.specs.Forms.{told, Told, ends, behind, letterThen, fieldsTold, picks, says, fits, listTold, leftTold, wordTold, mayEnd, placeOf, lineTold}
 use Rattle.command.specs.Commands.{table, byTable, remark, commandOf, textOf, verbAt, rowsOf}
 use Rattle.command.specs.Laid.{Leaves, Parses}
 use Rattle.command.specs.declared.Verb.{Verb}
@@ -26,21 +26,6 @@ use Rattle.command.specs.declared.Place.{Place}
 use Rattle.command.specs.declared.Fault.the-variants as fault
 use Rattle.command.specs.declared.Command.{Command}
 use Rattle.command.specs.declared.Command.the-variants.{Nothing, Does, Wrong}
-
--- ---- names
-
-pub named-none : (k : ℕ) (s : List ℕ) {ws : List Word} → ws ≡ [] → named k ws s ≡ NoNumber
-unfolding named
-named-none k s h = rw h
-
-pub named-here : (k : ℕ) (s : List ℕ) {line : List ℕ} {at from to : ℕ} → WordIs line at from to → same s (part line from to) ≡ true → named k (wordsAt line at) s ≡ Number k
-unfolding named
-named-here k s w e = rw (w .words, e)
-
-pub named-on : (k : ℕ) (s : List ℕ) {line : List ℕ} {at from to : ℕ} → WordIs line at from to → same s (part line from to) ≡ false
-    → named k (wordsAt line at) s ≡ named (k + 1) (wordsAt line to) s
-unfolding named
-named-on k s w e = rw (w .words, e, add-one k)
 
 -- ---- numbers that are laid
 

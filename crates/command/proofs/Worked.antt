@@ -16,11 +16,11 @@ use Rattle.watchfile.specs.declared.Body.the-variants as body
 use Rattle.line.specs.Words.{before, wordsFrom, more, same}
 use Rattle.line.specs.Numeral.{everyDigit, whole, signed}
 use Rattle.hex.specs.Hex.{hexValue, isHex}
-use Rattle.command.specs.Forms.{Told, named, told, fieldsTold, fits, listTold, wordTold, mayEnd, lineTold}
+use Rattle.command.specs.Forms.{Told, told, fieldsTold, fits, listTold, wordTold, mayEnd, lineTold}
 use Rattle.command.specs.Commands.{byTable, commandOf}
 use Rattle.values.specs.Values.{each, beforeWord, settingsOf, recordsOf}
 use Rattle.command.specs.declared.Place.{Place}
-use Rattle.command.specs.declared.Verb.the-variants.{Open, Hear, Note, Wind, Read, FeedFile, Log, Help}
+use Rattle.command.specs.declared.Verb.the-variants.{Open, Hear, Note, Wind, Read}
 use Rattle.command.specs.declared.Fault.the-variants.{NotACommand, WordCount, NotSuch, Misshapen}
 use Rattle.command.specs.declared.Command.{Command}
 use Rattle.command.specs.declared.Command.the-variants.{Nothing, Does, Wrong}
@@ -62,22 +62,16 @@ pub the-commands : Right (
     ∷ row (letters "hear 0a0B") (Does Hear 1) (0 ∷ [])
     ∷ row (letters "read ") (Does Read 0) []
     ∷ row (letters "  wind\t-0 ") (Does Wind 1) (0 ∷ [])
-    ∷ row (letters "feed c:\\morning.bin") (Does FeedFile 1) (0 ∷ [])
-    ∷ row (letters "log humidity 00007") (Does Log 2) (4 ∷ 7 ∷ [])
     ∷ row (letters "note 820 45 9990 40 60") (Does Note 5) (820 ∷ 45 ∷ 9990 ∷ 40 ∷ 60 ∷ [])
-    ∷ row (letters "help") (Does Help 0) []
     ∷ [])
-unfolding before wordsFrom more same everyDigit whole hexValue isHex named told fieldsTold fits listTold wordTold mayEnd lineTold byTable commandOf
+unfolding before wordsFrom more same everyDigit whole hexValue isHex told fieldsTold fits listTold wordTold mayEnd lineTold byTable commandOf
 the-commands = refl
 
 -- the numbers of the words before the fault stay
 pub the-faults : Right (
     row (letters "Wind 5") (Wrong (NotACommand (place 0 4))) []
     ∷ row (letters "winds 5") (Wrong (NotACommand (place 0 5))) []
-    ∷ row (letters "log rain 5") (Wrong (NotSuch 0x71 (place 4 8))) []
-    ∷ row (letters "log wind") (Wrong WordCount) (3 ∷ [])
     ∷ row (letters "note 820 45 9990 40") (Wrong WordCount) (820 ∷ 45 ∷ 9990 ∷ 40 ∷ [])
-    ∷ row (letters "help me") (Wrong WordCount) []
     ∷ row (letters "wind 4294967295 1") (Wrong WordCount) (4294967295 ∷ [])
     ∷ row (letters "wind 4294967296 1") (Wrong (NotSuch 0x6E (place 5 15))) []
     ∷ row (letters "wind -1") (Wrong (NotSuch 0x6E (place 5 7))) []
@@ -88,7 +82,7 @@ pub the-faults : Right (
     ∷ row (letters "open inHg x") (Wrong (NotSuch 0x75 (place 5 9))) []
     ∷ row (letters "open mmHg 2147483648") (Wrong (NotSuch 0x7A (place 10 20))) (1 ∷ [])
     ∷ [])
-unfolding before wordsFrom more same everyDigit whole signed hexValue isHex named told fieldsTold fits listTold wordTold mayEnd lineTold byTable commandOf
+unfolding before wordsFrom more same everyDigit whole signed hexValue isHex told fieldsTold fits listTold wordTold mayEnd lineTold byTable commandOf
 the-faults = refl
 
 -- the words of lists
@@ -103,7 +97,7 @@ pub the-lists : Right (
     ∷ row (letters "write 9 P:5:9:8") (Wrong (Misshapen (place 8 15))) (9 ∷ 0x50 ∷ 5 ∷ 9 ∷ 0 ∷ 0 ∷ 0 ∷ 0 ∷ [])
     ∷ row (letters "write 9 T:180:-18:256") (Wrong (NotSuch 0x6F (place 8 21))) (9 ∷ 0x54 ∷ 180 ∷ 2147483630 ∷ [])
     ∷ [])
-unfolding before wordsFrom more same everyDigit whole signed named told fieldsTold fits listTold wordTold mayEnd lineTold byTable commandOf
+unfolding before wordsFrom more same everyDigit whole signed told fieldsTold fits listTold wordTold mayEnd lineTold byTable commandOf
 the-lists = refl
 
 -- document 01's settings, with no anemometer
@@ -118,7 +112,7 @@ pub the-settings : settingsOf ((commandOf (letters "open mmHg 101 -268 24 662 73
       points = point (pos 7300) (negℤ (pos 4)) ∷ point (pos 7500) (negℤ (pos 8)) ∷ replicate 14 nowhere;
       anemometer = record { count = 0; points = replicate 20 noRate };
     }
-unfolding before wordsFrom more same everyDigit whole signed named told fieldsTold fits listTold wordTold mayEnd lineTold byTable commandOf each beforeWord settingsOf
+unfolding before wordsFrom more same everyDigit whole signed told fieldsTold fits listTold wordTold mayEnd lineTold byTable commandOf each beforeWord settingsOf
 the-settings = refl
 
 -- and with one
@@ -126,22 +120,22 @@ abbrev with-anemometer : Settings
 with-anemometer = settingsOf ((commandOf (letters "open mmHg 101 -268 24 662 7300:-4 7500:-8 anemometer 0:1 12:-9 13:20")) .numbers) 11
 
 pub the-barometers : (with-anemometer .count ≡ 2) × (with-anemometer .points ≡ point (pos 7300) (negℤ (pos 4)) ∷ point (pos 7500) (negℤ (pos 8)) ∷ replicate 14 nowhere)
-unfolding before wordsFrom more same everyDigit whole signed named told fieldsTold fits listTold wordTold mayEnd lineTold byTable commandOf each beforeWord settingsOf
+unfolding before wordsFrom more same everyDigit whole signed told fieldsTold fits listTold wordTold mayEnd lineTold byTable commandOf each beforeWord settingsOf
 the-barometers = (refl, refl)
 
 pub the-anemometers : with-anemometer .anemometer
     ≡ record { count = 3; points = ratePoint (pos 0) (pos 1) ∷ ratePoint (pos 12) (negℤ (pos 9)) ∷ ratePoint (pos 13) (pos 20) ∷ replicate 17 noRate }
-unfolding before wordsFrom more same everyDigit whole signed named told fieldsTold fits listTold wordTold mayEnd lineTold byTable commandOf each beforeWord settingsOf
+unfolding before wordsFrom more same everyDigit whole signed told fieldsTold fits listTold wordTold mayEnd lineTold byTable commandOf each beforeWord settingsOf
 the-anemometers = refl
 
 -- the word alone
 pub no-anemometer : (settingsOf ((commandOf (letters "open hPa 0 0 0 500 9000:0 9100:0 anemometer")) .numbers) 8) .anemometer ≡ record { count = 0; points = replicate 20 noRate }
-unfolding before wordsFrom more same everyDigit whole signed named told fieldsTold fits listTold wordTold mayEnd lineTold byTable commandOf each beforeWord settingsOf
+unfolding before wordsFrom more same everyDigit whole signed told fieldsTold fits listTold wordTold mayEnd lineTold byTable commandOf each beforeWord settingsOf
 no-anemometer = refl
 
 -- a second `anemometer` is a point that breaks the rules
 pub a-second : checked (settingsOf ((commandOf (letters "open hPa 0 0 0 500 9000:0 9100:0 anemometer 0:1 anemometer 2:3")) .numbers) 11) ≡ refused 25
-unfolding before wordsFrom more same everyDigit whole signed named told fieldsTold fits listTold wordTold mayEnd lineTold byTable commandOf each beforeWord settingsOf every certificateHolds anemometerHolds othersHold checked answer
+unfolding before wordsFrom more same everyDigit whole signed told fieldsTold fits listTold wordTold mayEnd lineTold byTable commandOf each beforeWord settingsOf every certificateHolds anemometerHolds othersHold checked answer
 a-second = refl
 
 -- the points behind the 16th are counted only
@@ -156,5 +150,5 @@ pub the-records : recordsOf ((commandOf (letters "write 820 P:5:9857 T:180:-18:1
     ∷ record { minute = 181; body = body.Wind 0 0 }
     ∷ record { minute = 242; body = body.Humidity 19 12345 12326 0 (number (negℤ (pos 399))) }
     ∷ replicate 44 (record { minute = 0; body = body.Pressure 0 }))
-unfolding before wordsFrom more same everyDigit whole signed named told fieldsTold fits listTold wordTold mayEnd lineTold byTable commandOf each recordsOf
+unfolding before wordsFrom more same everyDigit whole signed told fieldsTold fits listTold wordTold mayEnd lineTold byTable commandOf each recordsOf
 the-records = refl

@@ -8,7 +8,7 @@ use lib.ListN.{getD, drop}
 use Rattle.text.specs.Letters.{letters}
 use Rattle.line.specs.Words.{Word, words, same}
 use Rattle.command.specs.declared.Verb.{Verb}
-use Rattle.command.specs.declared.Verb.the-variants.{Open, Hear, Note, Pressure, Tendency, Wind, Humidity, Read, Write, FeedFile, Log, SaveFile, ListFile, Help}
+use Rattle.command.specs.declared.Verb.the-variants.{Open, Hear, Note, Pressure, Tendency, Wind, Humidity, Read, Write}
 use Rattle.command.specs.declared.Fault.the-variants.{NotACommand}
 use Rattle.command.specs.declared.Command.{Command}
 use Rattle.command.specs.declared.Command.the-variants.{Nothing, Wrong}
@@ -34,11 +34,6 @@ table =
     ∷ row "humidity" Humidity "n"
     ∷ row "read" Read "x"
     ∷ row "write" Write "n:Pnh....:Tnzo...:Wnhh...:Hnhhhoz"
-    ∷ row "feed" FeedFile "f"
-    ∷ row "log" Log "qn"
-    ∷ row "save" SaveFile "f"
-    ∷ row "list" ListFile "f"
-    ∷ row "help" Help ""
     ∷ []
 
 -- The command of the first row whose name a word is; whatever is in no row is no command.
@@ -66,10 +61,10 @@ textOf [] = []
 textOf (r ∷ rs) = r .name ++ (letters " =" ++ (r .form ++ (letters " " ++ textOf rs)))
 
 abbrev pub verbs : List Verb
-verbs = Open ∷ Hear ∷ Note ∷ Pressure ∷ Tendency ∷ Wind ∷ Humidity ∷ Read ∷ Write ∷ FeedFile ∷ Log ∷ SaveFile ∷ ListFile ∷ []
+verbs = Open ∷ Hear ∷ Note ∷ Pressure ∷ Tendency ∷ Wind ∷ Humidity ∷ Read ∷ []
 
 abbrev pub verbAt : ℕ → Verb
-verbAt i = getD verbs i Help
+verbAt i = getD verbs i Write
 
 unfoldable pub rowsOf : ℕ → List Word → List Row
 rowsOf i [] = []

@@ -7,7 +7,7 @@ use Prim.Native.Nat.{ℕ, suc, _+_}
 use lib.Dec.{leb, ltb, eqb}
 use lib.ListN.{length, getD}
 use Rattle.text.specs.Letters.{letters}
-use Rattle.line.specs.Words.{Word, words, field, more, fields, same}
+use Rattle.line.specs.Words.{Word, field, more, fields, same}
 use Rattle.line.specs.Numeral.{whole, signed}
 use Rattle.line.specs.declared.Said.{Said}
 use Rattle.line.specs.declared.Said.the-variants.{Number, NoNumber}
@@ -23,30 +23,22 @@ use Rattle.command.specs.declared.Command.the-variants.{Does, Wrong}
 
 -- ---- letters
 
--- Which of some names a text is, counted from `first`.
-unfoldable pub named : ℕ → List Word → List ℕ → Said
-named first [] s = NoNumber
-named first (w ∷ ws) s = cond (same s (w .bytes)) (Number first) (named (suc first) ws s)
-
--- Whether a text is what it should be; it says nothing more.
+-- A number, where a text is what it should be.
 abbrev pub only : Bool → ℕ → Said
 only right n = cond right (Number n) NoNumber
 
 -- What a text says by a letter. n, h and o are whole numbers of 32, 16 and 8 bits, z is one of 32 bits with a sign, u the barometer's
--- unit, q a question, f a file's name, which may be any word, x bytes in hex, and a the word `anemometer`. Whatever letter is none of
--- these stands for itself.
+-- unit, x bytes in hex, and a the word `anemometer`. Whatever letter is none of these stands for itself.
 unfoldable pub told : ℕ → List ℕ → Said
 told letter s =
     cond (eqb letter 0x6E {- n -}) (whole 4294967295 s)
     (cond (eqb letter 0x68 {- h -}) (whole 65535 s)
     (cond (eqb letter 0x6F {- o -}) (whole 255 s)
     (cond (eqb letter 0x7A {- z -}) (signed s)
-    (cond (eqb letter 0x75 {- u -}) (named 0 (words (letters "hPa mmHg")) s)
-    (cond (eqb letter 0x71 {- q -}) (named 1 (words (letters "pressure tendency wind humidity")) s)
-    (cond (eqb letter 0x66 {- f -}) (Number 0)
+    (cond (eqb letter 0x75 {- u -}) (cond (same s (letters "hPa")) (Number 0) (only (same s (letters "mmHg")) 1))
     (cond (eqb letter 0x78 {- x -}) (only (isHex s) 0)
     (cond (eqb letter 0x61 {- a -}) (only (same s (letters "anemometer")) anemometerWord)
-    (only (same s (letter ∷ [])) letter)))))))))
+    (only (same s (letter ∷ [])) letter)))))))
 
 -- ---- words, from the left
 

@@ -6,7 +6,7 @@ ghost use Prim.Native.Nat.{_≤_, _<_};
 ghost use lib.ListN.{length};
 ghost use Rattle.text.specs.Text.{Put};
 ghost use Rattle.line.specs.Words.{words, wordAt, wordsAt, field, fields, fieldsAt};
-ghost use Rattle.command.specs.Forms.{named, told, picks, fits, fieldsTold, listTold, wordTold, lineTold};
+ghost use Rattle.command.specs.Forms.{only, told, picks, fits, fieldsTold, listTold, wordTold, lineTold};
 ghost use Rattle.command.specs.Commands.{verbAt, rowsOf, byTable, commandOf};
 ghost use Rattle.command.specs.Laid.{Lays, Parses};
 use hex::is_hex;
@@ -30,11 +30,6 @@ pub enum Verb {
     Humidity,
     Read,
     Write,
-    FeedFile,
-    Log,
-    SaveFile,
-    ListFile,
-    Help,
 }
 
 // Where a word stands in a line: its first byte, and the place behind its last.
@@ -91,27 +86,14 @@ fn put(numbers: &mut [u64], at: usize, n: u64) -> usize
     numbers.len()
 }
 
-// Which of the words of a text a name is, counted from `first`.
-fn named(names: &[u8], name: &[u8], first: u64) -> Said
-    requires { ⌜ first ≤ 1 ⌝ }
-    ensures { λ r. ⌜ r ≡ named first (words (now (names .entry))) (now (name .entry)) ⌝ }
+// A number, where a text is what it should be.
+fn only(right: bool, n: u64) -> Said
+    ensures { λ r. ⌜ r ≡ only right n ⌝ }
 {
-    let mut i = first;
-    let mut at = 0;
-    loop {
-        match next_word(names, at) {
-            Part::End => {
-                return Said::NoNumber;
-            }
-            Part::Between(from, to) => {
-                if same(name, &names[from..to]) {
-                    return Said::Number(i);
-                }
-                i += 1;
-                at = to;
-            }
-        }
+    if right {
+        return Said::Number(n);
     }
+    Said::NoNumber
 }
 
 // What a text says by a letter of a form.
@@ -131,30 +113,18 @@ fn told(letter: u8, text: &[u8]) -> Said
         return signed(text);
     }
     if letter == b'u' {
-        return named(b"hPa mmHg", text, 0);
-    }
-    if letter == b'q' {
-        return named(b"pressure tendency wind humidity", text, 1);
-    }
-    if letter == b'f' {
-        return Said::Number(0);
-    }
-    if letter == b'x' {
-        if is_hex(text) {
+        if same(text, b"hPa") {
             return Said::Number(0);
         }
-        return Said::NoNumber;
+        return only(same(text, b"mmHg"), 1);
+    }
+    if letter == b'x' {
+        return only(is_hex(text), 0);
     }
     if letter == b'a' {
-        if same(text, b"anemometer") {
-            return Said::Number(ANEMOMETER);
-        }
-        return Said::NoNumber;
+        return only(same(text, b"anemometer"), ANEMOMETER);
     }
-    if same(text, &[letter]) {
-        return Said::Number(letter as u64);
-    }
-    Said::NoNumber
+    only(same(text, &[letter]), letter as u64)
 }
 
 // Whether a letter at a form's start says for which words the form is.
@@ -345,16 +315,11 @@ fn verb_at(row: usize) -> Verb
         Verb::Wind,
         Verb::Humidity,
         Verb::Read,
-        Verb::Write,
-        Verb::FeedFile,
-        Verb::Log,
-        Verb::SaveFile,
-        Verb::ListFile,
     ];
-    if row < 13 {
+    if row < 8 {
         return verbs[row];
     }
-    Verb::Help
+    Verb::Write
 }
 
 // The command of the row whose name the first word is, which stands from a place to another.
@@ -406,12 +371,7 @@ pub fn parse(line: &[u8], numbers: &mut [u64]) -> Command
                 wind =n \
                 humidity =n \
                 read =x \
-                write =n:Pnh....:Tnzo...:Wnhh...:Hnhhhoz \
-                feed =f \
-                log =qn \
-                save =f \
-                list =f \
-                help = ",
+                write =n:Pnh....:Tnzo...:Wnhh...:Hnhhhoz ",
                 line,
                 from,
                 to,

@@ -204,9 +204,7 @@ use Rattle.values.proofs.SingleAnswers as values
 use Rattle.values.proofs.settings_of.Reads as values-settings-of
 use Rattle.values.proofs.records_of.Reads as values-records-of
 use Rattle.notice.proofs.SingleAnswers as notice
-use Rattle.notice.proofs.put_help.Reads as notice-put-help
 use Rattle.notice.proofs.put_fault.Reads as notice-put-fault
-use Rattle.notice.proofs.put_counts.Reads as notice-put-counts
 use Rattle.told.proofs.SingleAnswers as told
 use Rattle.told.proofs.hearing_told.Reads as told-hearing-told
 use Rattle.told.proofs.noting_told.Reads as told-noting-told
@@ -503,12 +501,8 @@ pub record OneAnswerEach : Type 0 where
   pub values-settings-of-single : Single values-settings-of.Post
   pub values-records-of-single : Single values-records-of.Post
   -- notice
-  pub notice-put-help-single : Single notice-put-help.Post
-  pub notice-put-help-left : SingleLeft notice-put-help.Post (λ κs s. s .0 .now)
   pub notice-put-fault-single : Single notice-put-fault.Post
   pub notice-put-fault-left : SingleLeft notice-put-fault.Post (λ κs s. s .0 .now)
-  pub notice-put-counts-single : Single notice-put-counts.Post
-  pub notice-put-counts-left : SingleLeft notice-put-counts.Post (λ κs s. s .0 .now)
   -- told
   pub told-hearing-told-single : Single told-hearing-told.Post
   pub told-noting-told-single : Single told-noting-told.Post
@@ -801,12 +795,8 @@ one-answer-each =
       command-parse-left = command.single-parse-numbers;
       values-settings-of-single = values.single-settings-of;
       values-records-of-single = values.single-records-of;
-      notice-put-help-single = notice.single-put-help;
-      notice-put-help-left = notice.single-put-help-text;
       notice-put-fault-single = notice.single-put-fault;
       notice-put-fault-left = notice.single-put-fault-text;
-      notice-put-counts-single = notice.single-put-counts;
-      notice-put-counts-left = notice.single-put-counts-text;
       told-hearing-told-single = told.single-hearing-told;
       told-noting-told-single = told.single-noting-told;
       told-pressure-told-single = told.single-pressure-told;

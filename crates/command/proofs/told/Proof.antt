@@ -49,56 +49,73 @@ returns-4 c =
       eq-eqb _ _ (c .before .if4 .taken),
     ) (c .signed .ensures)
 
-slice-aggregate-named : tie.Need-slice-aggregate-named
-slice-aggregate-named c = search needs
+slice-aggregate-same : tie.Need-slice-aggregate-same
+slice-aggregate-same c = search needs
 
-named-requires : tie.Need-named-requires
-named-requires c κs = search needs
+same-requires : tie.Need-same-requires
+same-requires c κs = search needs
 
 returns-5 : tie.Need-returns-5
 unfolding told
 returns-5 c =
     rw (
-      ne-eqb _ _ (c .before .before .before .before .before .before .if1 .left),
-      ne-eqb _ _ (c .before .before .before .before .before .if2 .left),
-      ne-eqb _ _ (c .before .before .before .before .if3 .left),
-      ne-eqb _ _ (c .before .before .before .if4 .left),
-      eq-eqb _ _ (c .before .before .if5 .taken),
-    ) (c .named .ensures)
+      ne-eqb _ _ (c .before .before .before .before .before .before .before .if1 .left),
+      ne-eqb _ _ (c .before .before .before .before .before .before .if2 .left),
+      ne-eqb _ _ (c .before .before .before .before .before .if3 .left),
+      ne-eqb _ _ (c .before .before .before .before .if4 .left),
+      eq-eqb _ _ (c .before .before .before .if5 .taken),
+      sym (c .before .same .ensures) ∙ c .if6 .taken,
+    )
 
-slice-aggregate-named-2 : tie.Need-slice-aggregate-named-2
-slice-aggregate-named-2 c = search needs
+slice-aggregate-same-2 : tie.Need-slice-aggregate-same-2
+slice-aggregate-same-2 c = search needs
 
-named-requires-2 : tie.Need-named-requires-2
-named-requires-2 c κs = search needs
+same-requires-2 : tie.Need-same-requires-2
+same-requires-2 c κs = search needs
+
+only-requires : tie.Need-only-requires
+only-requires c κs = search needs
 
 returns-6 : tie.Need-returns-6
 unfolding told
 returns-6 c =
+    rw (
+      ne-eqb _ _ (c .before .before .before .before .before .before .before .before .before .before .if1 .left),
+      ne-eqb _ _ (c .before .before .before .before .before .before .before .before .before .if2 .left),
+      ne-eqb _ _ (c .before .before .before .before .before .before .before .before .if3 .left),
+      ne-eqb _ _ (c .before .before .before .before .before .before .before .if4 .left),
+      eq-eqb _ _ (c .before .before .before .before .before .before .if5 .taken),
+      sym (c .before .before .before .before .same .ensures) ∙ c .before .before .before .if6 .left,
+      ← c .before .same2 .ensures,
+    ) (c .only .ensures)
+
+is-hex-requires : tie.Need-is-hex-requires
+is-hex-requires c κs = search needs
+
+only-requires-2 : tie.Need-only-requires-2
+only-requires-2 c κs = search needs
+
+returns-7 : tie.Need-returns-7
+unfolding told
+returns-7 c =
     rw (
       ne-eqb _ _ (c .before .before .before .before .before .before .before .if1 .left),
       ne-eqb _ _ (c .before .before .before .before .before .before .if2 .left),
       ne-eqb _ _ (c .before .before .before .before .before .if3 .left),
       ne-eqb _ _ (c .before .before .before .before .if4 .left),
       ne-eqb _ _ (c .before .before .before .if5 .left),
-      eq-eqb _ _ (c .before .before .if6 .taken),
-    ) (c .named2 .ensures)
+      eq-eqb _ _ (c .before .before .if7 .taken),
+      ← c .before .is-hex .ensures,
+    ) (c .only2 .ensures)
 
-returns-7 : tie.Need-returns-7
-unfolding told
-returns-7 c =
-    rw (
-      ne-eqb _ _ (c .before .before .before .before .before .before .if1 .left),
-      ne-eqb _ _ (c .before .before .before .before .before .if2 .left),
-      ne-eqb _ _ (c .before .before .before .before .if3 .left),
-      ne-eqb _ _ (c .before .before .before .if4 .left),
-      ne-eqb _ _ (c .before .before .if5 .left),
-      ne-eqb _ _ (c .before .if6 .left),
-      eq-eqb _ _ (c .if7 .taken),
-    )
+slice-aggregate-same-3 : tie.Need-slice-aggregate-same-3
+slice-aggregate-same-3 c = search needs
 
-is-hex-requires : tie.Need-is-hex-requires
-is-hex-requires c κs = search needs
+same-requires-3 : tie.Need-same-requires-3
+same-requires-3 c κs = search needs
+
+only-requires-3 : tie.Need-only-requires-3
+only-requires-3 c κs = search needs
 
 returns-8 : tie.Need-returns-8
 unfolding told
@@ -109,11 +126,19 @@ returns-8 c =
       ne-eqb _ _ (c .before .before .before .before .before .before .before .if3 .left),
       ne-eqb _ _ (c .before .before .before .before .before .before .if4 .left),
       ne-eqb _ _ (c .before .before .before .before .before .if5 .left),
-      ne-eqb _ _ (c .before .before .before .before .if6 .left),
-      ne-eqb _ _ (c .before .before .before .if7 .left),
-      eq-eqb _ _ (c .before .before .if8 .taken),
-      sym (c .before .is-hex .ensures) ∙ c .if9 .taken,
-    )
+      ne-eqb _ _ (c .before .before .before .before .if7 .left),
+      eq-eqb _ _ (c .before .before .before .if8 .taken),
+      ← c .before .same3 .ensures,
+    ) (c .only3 .ensures)
+
+slice-aggregate-same-4 : tie.Need-slice-aggregate-same-4
+slice-aggregate-same-4 c = search needs
+
+same-requires-4 : tie.Need-same-requires-4
+same-requires-4 c κs = search needs
+
+only-requires-4 : tie.Need-only-requires-4
+only-requires-4 c κs = search needs
 
 returns-9 : tie.Need-returns-9
 unfolding told
@@ -124,87 +149,10 @@ returns-9 c =
       ne-eqb _ _ (c .before .before .before .before .before .before .before .if3 .left),
       ne-eqb _ _ (c .before .before .before .before .before .before .if4 .left),
       ne-eqb _ _ (c .before .before .before .before .before .if5 .left),
-      ne-eqb _ _ (c .before .before .before .before .if6 .left),
-      ne-eqb _ _ (c .before .before .before .if7 .left),
-      eq-eqb _ _ (c .before .before .if8 .taken),
-      sym (c .before .is-hex .ensures) ∙ c .if9 .left,
-    )
-
-slice-aggregate-same : tie.Need-slice-aggregate-same
-slice-aggregate-same c = search needs
-
-same-requires : tie.Need-same-requires
-same-requires c κs = search needs
-
-returns-10 : tie.Need-returns-10
-unfolding told
-returns-10 c =
-    rw (
-      ne-eqb _ _ (c .before .before .before .before .before .before .before .before .before .before .before .if1 .left),
-      ne-eqb _ _ (c .before .before .before .before .before .before .before .before .before .before .if2 .left),
-      ne-eqb _ _ (c .before .before .before .before .before .before .before .before .before .if3 .left),
-      ne-eqb _ _ (c .before .before .before .before .before .before .before .before .if4 .left),
-      ne-eqb _ _ (c .before .before .before .before .before .before .before .if5 .left),
-      ne-eqb _ _ (c .before .before .before .before .before .before .if6 .left),
-      ne-eqb _ _ (c .before .before .before .before .before .if7 .left),
-      ne-eqb _ _ (c .before .before .before .before .if8 .left),
-      eq-eqb _ _ (c .before .before .before .if10 .taken),
-      sym (c .before .same .ensures) ∙ c .if11 .taken,
-    )
-
-returns-11 : tie.Need-returns-11
-unfolding told
-returns-11 c =
-    rw (
-      ne-eqb _ _ (c .before .before .before .before .before .before .before .before .before .before .before .if1 .left),
-      ne-eqb _ _ (c .before .before .before .before .before .before .before .before .before .before .if2 .left),
-      ne-eqb _ _ (c .before .before .before .before .before .before .before .before .before .if3 .left),
-      ne-eqb _ _ (c .before .before .before .before .before .before .before .before .if4 .left),
-      ne-eqb _ _ (c .before .before .before .before .before .before .before .if5 .left),
-      ne-eqb _ _ (c .before .before .before .before .before .before .if6 .left),
-      ne-eqb _ _ (c .before .before .before .before .before .if7 .left),
-      ne-eqb _ _ (c .before .before .before .before .if8 .left),
-      eq-eqb _ _ (c .before .before .before .if10 .taken),
-      sym (c .before .same .ensures) ∙ c .if11 .left,
-    )
-
-slice-aggregate-same-2 : tie.Need-slice-aggregate-same-2
-slice-aggregate-same-2 c = search needs
-
-same-requires-2 : tie.Need-same-requires-2
-same-requires-2 c κs = search needs
-
-returns-12 : tie.Need-returns-12
-unfolding told
-returns-12 c =
-    rw (
-      ne-eqb _ _ (c .before .before .before .before .before .before .before .before .before .before .before .if1 .left),
-      ne-eqb _ _ (c .before .before .before .before .before .before .before .before .before .before .if2 .left),
-      ne-eqb _ _ (c .before .before .before .before .before .before .before .before .before .if3 .left),
-      ne-eqb _ _ (c .before .before .before .before .before .before .before .before .if4 .left),
-      ne-eqb _ _ (c .before .before .before .before .before .before .before .if5 .left),
-      ne-eqb _ _ (c .before .before .before .before .before .before .if6 .left),
-      ne-eqb _ _ (c .before .before .before .before .before .if7 .left),
-      ne-eqb _ _ (c .before .before .before .before .if8 .left),
-      ne-eqb _ _ (c .before .before .before .if10 .left),
-      sym (c .before .same2 .ensures) ∙ c .if12 .taken,
-    )
-
-returns-13 : tie.Need-returns-13
-unfolding told
-returns-13 c =
-    rw (
-      ne-eqb _ _ (c .before .before .before .before .before .before .before .before .before .before .before .if1 .left),
-      ne-eqb _ _ (c .before .before .before .before .before .before .before .before .before .before .if2 .left),
-      ne-eqb _ _ (c .before .before .before .before .before .before .before .before .before .if3 .left),
-      ne-eqb _ _ (c .before .before .before .before .before .before .before .before .if4 .left),
-      ne-eqb _ _ (c .before .before .before .before .before .before .before .if5 .left),
-      ne-eqb _ _ (c .before .before .before .before .before .before .if6 .left),
-      ne-eqb _ _ (c .before .before .before .before .before .if7 .left),
-      ne-eqb _ _ (c .before .before .before .before .if8 .left),
-      ne-eqb _ _ (c .before .before .before .if10 .left),
-      sym (c .before .same2 .ensures) ∙ c .if12 .left,
-    )
+      ne-eqb _ _ (c .before .before .before .before .if7 .left),
+      ne-eqb _ _ (c .before .before .before .if8 .left),
+      ← c .before .same4 .ensures,
+    ) (c .only4 .ensures)
 
 pub told-spec : {M : Type 1} → statement M
 told-spec =
@@ -218,21 +166,21 @@ told-spec =
     returns-3
     signed-requires
     returns-4
-    slice-aggregate-named
-    named-requires
-    returns-5
-    slice-aggregate-named-2
-    named-requires-2
-    returns-6
-    returns-7
-    is-hex-requires
-    returns-8
-    returns-9
     slice-aggregate-same
     same-requires
-    returns-10
-    returns-11
+    returns-5
     slice-aggregate-same-2
     same-requires-2
-    returns-12
-    returns-13)
+    only-requires
+    returns-6
+    is-hex-requires
+    only-requires-2
+    returns-7
+    slice-aggregate-same-3
+    same-requires-3
+    only-requires-3
+    returns-8
+    slice-aggregate-same-4
+    same-requires-4
+    only-requires-4
+    returns-9)

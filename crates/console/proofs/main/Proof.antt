@@ -8,16 +8,16 @@ use Rattle.console.proofs.main.Statement.{statement}
 use Rattle.console.proofs.main.Tie as tie
 
 abbrev Inv-loop2 : tie.InvT-loop2
-Inv-loop2 store₀ file₀ input line₀ filled₀ log₀ turns got n i₀ store file line filled log i = (length file ≡ 4096) × (length line ≡ 8192)
+Inv-loop2 store₀ input line₀ filled₀ turns got n i₀ store line filled i = length line ≡ 8192
 
 abbrev μ-loop2 : tie.MeasureT-loop2
-μ-loop2 store₀ file₀ input line₀ filled₀ log₀ turns got n i₀ store file line filled log i = n - i
+μ-loop2 store₀ input line₀ filled₀ turns got n i₀ store line filled i = n - i
 
 abbrev Inv-loop : tie.InvT-loop
-Inv-loop store₀ file₀ input₀ line₀ filled₀ log₀ turns₀ store file input line filled log turns = (length file ≡ 4096) × (length input ≡ 4096) × (length line ≡ 8192)
+Inv-loop store₀ input₀ line₀ filled₀ turns₀ store input line filled turns = (length input ≡ 4096) × (length line ≡ 8192)
 
 abbrev μ-loop : tie.MeasureT-loop
-μ-loop store₀ file₀ input₀ line₀ filled₀ log₀ turns₀ store file input line filled log turns = turns
+μ-loop store₀ input₀ line₀ filled₀ turns₀ store input line filled turns = turns
 
 loop-holds : tie.Need-loop-holds Inv-loop2 μ-loop2 Inv-loop μ-loop
 loop-holds c = search needs
@@ -46,10 +46,6 @@ add-i c = search needs
 slice-aggregate-answer-line :
     tie.Need-slice-aggregate-answer-line Inv-loop2 μ-loop2 Inv-loop μ-loop
 slice-aggregate-answer-line c = search needs
-
-slice-aggregate-answer-line-2 :
-    tie.Need-slice-aggregate-answer-line-2 Inv-loop2 μ-loop2 Inv-loop μ-loop
-slice-aggregate-answer-line-2 c = search needs
 
 answer-line-requires : tie.Need-answer-line-requires Inv-loop2 μ-loop2 Inv-loop μ-loop
 answer-line-requires c κs = search needs
@@ -96,13 +92,9 @@ loop-less-2 c = search needs
 loop-again-2 : tie.Need-loop-again-2 Inv-loop2 μ-loop2 Inv-loop μ-loop
 loop-again-2 c = search needs
 
-slice-aggregate-answer-line-3 :
-    tie.Need-slice-aggregate-answer-line-3 Inv-loop2 μ-loop2 Inv-loop μ-loop
-slice-aggregate-answer-line-3 c = search needs
-
-slice-aggregate-answer-line-4 :
-    tie.Need-slice-aggregate-answer-line-4 Inv-loop2 μ-loop2 Inv-loop μ-loop
-slice-aggregate-answer-line-4 c = search needs
+slice-aggregate-answer-line-2 :
+    tie.Need-slice-aggregate-answer-line-2 Inv-loop2 μ-loop2 Inv-loop μ-loop
+slice-aggregate-answer-line-2 c = search needs
 
 answer-line-requires-2 : tie.Need-answer-line-requires-2 Inv-loop2 μ-loop2 Inv-loop μ-loop
 answer-line-requires-2 c κs = search needs
@@ -130,7 +122,6 @@ main-spec =
     array-read-b
     add-i
     slice-aggregate-answer-line
-    slice-aggregate-answer-line-2
     answer-line-requires
     loop2-less
     loop2-again
@@ -146,8 +137,7 @@ main-spec =
     loop-again
     loop-less-2
     loop-again-2
-    slice-aggregate-answer-line-3
-    slice-aggregate-answer-line-4
+    slice-aggregate-answer-line-2
     answer-line-requires-2
     returns
     returns-2)

@@ -38,23 +38,7 @@ same-length-3 : tie.Need-same-length-3
 same-length-3 c = search needs
 
 returns-3 : tie.Need-returns-3
-returns-3 c =
-    rw (ne-eqb _ _ (c .before .before .before .before .before .before .before .if1 .left), ne-eqb _ _ (c .before .before .before .before .before .before .if2 .left), eq-eqb _ _ (c .before .before .before .before .before .if3 .taken))
-    (c .before .before .put-wrong3 .ensures)
-
-slice-aggregate-put-wrong-4 : tie.Need-slice-aggregate-put-wrong-4
-slice-aggregate-put-wrong-4 c = search needs
-
-put-wrong-requires-4 : tie.Need-put-wrong-requires-4
-put-wrong-requires-4 c κs = search needs
-
-same-length-4 : tie.Need-same-length-4
-same-length-4 c = search needs
-
-returns-4 : tie.Need-returns-4
-returns-4 c =
-    rw (ne-eqb _ _ (c .before .before .before .before .before .before .before .if1 .left), ne-eqb _ _ (c .before .before .before .before .before .before .if2 .left), ne-eqb _ _ (c .before .before .before .before .before .if3 .left))
-    (c .before .before .put-wrong4 .ensures)
+returns-3 c = rw (ne-eqb _ _ (c .before .before .before .before .before .before .if1 .left), ne-eqb _ _ (c .before .before .before .before .before .if2 .left)) (c .before .before .put-wrong3 .ensures)
 
 pub put-not-such-spec : {M : Type 1} → statement M
 put-not-such-spec =
@@ -71,8 +55,4 @@ put-not-such-spec =
     slice-aggregate-put-wrong-3
     put-wrong-requires-3
     same-length-3
-    returns-3
-    slice-aggregate-put-wrong-4
-    put-wrong-requires-4
-    same-length-4
-    returns-4)
+    returns-3)

@@ -16,19 +16,16 @@ put-bytes-requires-2 c κs = search needs
 put-field-requires : tie.Need-put-field-requires
 put-field-requires c κs = search needs
 
-slice-aggregate-put-line : tie.Need-slice-aggregate-put-line
-slice-aggregate-put-line c = search needs
-
-put-line-requires : tie.Need-put-line-requires
-put-line-requires c κs = search needs
+put-byte-requires : tie.Need-put-byte-requires
+put-byte-requires c κs = search needs
 
 same-length : tie.Need-same-length
 same-length c = search needs
 
 returns : tie.Need-returns
 returns c =
-    join (c .before .before .before .before .before .before .before .before .before .before .before .before .before .before .before .before .put-bytes .ensures)
-    (join (c .before .before .before .before .before .before .before .before .before .before .before .put-bytes2 .ensures) (join (c .before .before .before .before .before .before .before .put-field .ensures) (c .before .before .put-line .ensures)))
+    join (c .before .before .before .before .before .before .before .before .before .before .before .before .before .before .before .put-bytes .ensures)
+    (join (c .before .before .before .before .before .before .before .before .before .before .put-bytes2 .ensures) (join (c .before .before .before .before .before .before .put-field .ensures) (c .before .before .put-byte .ensures)))
 
 pub put-wrong-spec : {M : Type 1} → statement M
 put-wrong-spec =
@@ -38,7 +35,6 @@ put-wrong-spec =
     slice-aggregate-put-bytes
     put-bytes-requires-2
     put-field-requires
-    slice-aggregate-put-line
-    put-line-requires
+    put-byte-requires
     same-length
     returns)
