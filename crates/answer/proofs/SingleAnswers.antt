@@ -2,7 +2,6 @@
 -- functions of the arguments. Assumes nothing.
 use mathlib.Core.Path.{sym, _∙_}
 use Rattle.number.specs.Single.{Single, SingleLeft}
-use Rattle.answer.proofs.put_line.Reads as put-line
 use Rattle.answer.proofs.put_opening.Reads as put-opening
 use Rattle.answer.proofs.put_hearing.Reads as put-hearing
 use Rattle.answer.proofs.put_noting.Reads as put-noting
@@ -12,16 +11,10 @@ use Rattle.answer.proofs.put_wind.Reads as put-wind
 use Rattle.answer.proofs.put_humidity.Reads as put-humidity
 use Rattle.answer.proofs.put_written.Reads as put-written
 
-pub single-put-line : Single put-line.Post
-single-put-line κs a r r′ s s′ p q = p .next ∙ sym (q .next)
-
--- the bytes behind the buffer's reference, at exit
-pub single-put-line-text : SingleLeft put-line.Post (λ κs s. s .0 .now)
-single-put-line-text κs a r r′ s s′ p q = p .laid ∙ sym (q .laid)
-
 pub single-put-opening : Single put-opening.Post
 single-put-opening κs a r r′ s s′ p q = p .next ∙ sym (q .next)
 
+-- the bytes behind the buffer's reference, at exit
 pub single-put-opening-text : SingleLeft put-opening.Post (λ κs s. s .0 .now)
 single-put-opening-text κs a r r′ s s′ p q = p .laid ∙ sym (q .laid)
 

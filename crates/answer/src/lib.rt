@@ -1,6 +1,5 @@
 // The station's answers as lines of text in a lent buffer. Each function puts one line at a place and gives the place behind it;
 // what would lie beyond the buffer's end is cut off.
-ghost use mathlib.Core.Path.{_≡_};
 ghost use mathlib.Core.List.{[], _∷_, _++_};
 ghost use Prim.Native.Nat.{_≤_};
 ghost use lib.ListN.{length};
@@ -25,14 +24,6 @@ use station::TendencyAnswer;
 use station::WindAnswer;
 use store::Hearing;
 use writer::Written;
-
-// Puts bytes as they are, and the end of the line.
-pub fn put_line(text: &mut [u8], at: usize, bytes: &[u8]) -> usize
-    ensures { λ r. ⌜ Put (now (text .entry)) (now (text .exit)) at (now (bytes .entry) ++ end) r ⌝ }
-{
-    let behind = text::put_bytes(text, at, bytes);
-    text::put_byte(text, behind, b'\n')
-}
 
 // ---- refusals
 
@@ -79,7 +70,8 @@ fn put_word(text: &mut [u8], at: usize, word: &[u8], number: u32) -> usize
     ensures { λ r. ⌜ Put (now (text .entry)) (now (text .exit)) at (numberLine (now (word .entry)) number) r ⌝ }
 {
     if number == 0 {
-        return put_line(text, at, word);
+        let behind = text::put_bytes(text, at, word);
+        return text::put_byte(text, behind, b'\n');
     }
     put_refusal(text, at, &[number as u64])
 }

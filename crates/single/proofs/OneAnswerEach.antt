@@ -179,7 +179,6 @@ use Rattle.logbook.proofs.empty.Reads as logbook-empty
 use Rattle.logbook.proofs.write.Reads as logbook-write
 use Rattle.logbook.proofs.take_out.Reads as logbook-take-out
 use Rattle.answer.proofs.SingleAnswers as answer
-use Rattle.answer.proofs.put_line.Reads as answer-put-line
 use Rattle.answer.proofs.put_opening.Reads as answer-put-opening
 use Rattle.answer.proofs.put_hearing.Reads as answer-put-hearing
 use Rattle.answer.proofs.put_noting.Reads as answer-put-noting
@@ -463,8 +462,6 @@ pub record OneAnswerEach : Type 0 where
   pub logbook-take-out-single : Single logbook-take-out.Post
   pub logbook-take-out-left : SingleLeft logbook-take-out.Post (λ κs s. s .0 .now)
   -- answer
-  pub answer-put-line-single : Single answer-put-line.Post
-  pub answer-put-line-left : SingleLeft answer-put-line.Post (λ κs s. s .0 .now)
   pub answer-put-opening-single : Single answer-put-opening.Post
   pub answer-put-opening-left : SingleLeft answer-put-opening.Post (λ κs s. s .0 .now)
   pub answer-put-hearing-single : Single answer-put-hearing.Post
@@ -762,8 +759,6 @@ one-answer-each =
       logbook-write-left = logbook.single-write-left;
       logbook-take-out-single = logbook.single-take-out;
       logbook-take-out-left = logbook.single-take-out-left;
-      answer-put-line-single = answer.single-put-line;
-      answer-put-line-left = answer.single-put-line-text;
       answer-put-opening-single = answer.single-put-opening;
       answer-put-opening-left = answer.single-put-opening-text;
       answer-put-hearing-single = answer.single-put-hearing;

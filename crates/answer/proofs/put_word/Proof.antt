@@ -1,17 +1,23 @@
 -- `put_word` meets its contract: by its test. Assumes nothing.
 use borrow.Author.Tests.{eq-eqb, ne-eqb}
+use Rattle.text.proofs.PutLaws.{join}
 use borrow.Author.Needs.{needs}
 use Rattle.answer.proofs.put_word.Statement.{statement}
 use Rattle.answer.proofs.put_word.Tie as tie
 
-put-line-requires : tie.Need-put-line-requires
-put-line-requires c κs = search needs
+put-bytes-requires : tie.Need-put-bytes-requires
+put-bytes-requires c κs = search needs
+
+put-byte-requires : tie.Need-put-byte-requires
+put-byte-requires c κs = search needs
 
 same-length : tie.Need-same-length
 same-length c = search needs
 
 returns : tie.Need-returns
-returns c = rw (eq-eqb _ _ (c .before .before .before .before .if1 .taken)) (c .before .before .put-line .ensures)
+returns c =
+    rw (eq-eqb _ _ (c .before .before .before .before .before .before .before .before .if1 .taken))
+    (join (c .before .before .before .before .before .before .put-bytes .ensures) (c .before .before .put-byte .ensures))
 
 slice-aggregate-put-refusal : tie.Need-slice-aggregate-put-refusal
 slice-aggregate-put-refusal c = search needs
@@ -29,7 +35,8 @@ pub put-word-spec : {M : Type 1} → statement M
 put-word-spec =
     tie.close
     (tie.spec
-    put-line-requires
+    put-bytes-requires
+    put-byte-requires
     same-length
     returns
     slice-aggregate-put-refusal
