@@ -28,9 +28,6 @@ use Rattle.logbook.proofs.LaidLaws.{same-front, file-records}
 use Rattle.logbook.proofs.InsertLaws.{place-most, insert-set, insert-push, push-front, push-length}
 
 module _ (rule : ℕ → ℤ) where
-  pub writes-none : (all : List Record) (room : ℕ) → writing rule all 0 room ≡ writingAll rule room []
-  writes-none all room = same-front rule all [] 0 room refl
-
   -- the 49th record is refused, be it right or wrong
   one-past : (right : Bool) (i : ℕ) (L L′ : List (Test Numbered)) (a a′ : List ℕ) → i ≡ 48
       → cond (not right) (refused (numbered 16 (i ∷ []))) (answer (past 49 ∷ L) a) ≡ answer (past 49 ∷ L′) a′

@@ -187,10 +187,6 @@ module _ (rule : ℕ → ℤ) (r : Record) (n : ℕ) (before : List ℕ) (rs : L
       pub always-placed : 820 ≤ length before → placing rule r n before ≡ given (fileOf (inserted r rs))
       always-placed h = placed-where-room (omega (arith, file-most (inserted r rs) few))
 
--- A FILE WITHOUT RECORDS IS READ AS NONE.
-pub empty-then-read : (rule : ℕ → ℤ) → DewRule rule → (room : ℕ) (file : List ℕ) → writingAll rule room [] ≡ given file → reading rule file ≡ given []
-empty-then-read rule ruled room file e = written-then-read rule [] 0 room file e ruled
-
 -- REFUSED, NO BYTE CHANGES.
 pub refused-leaves-every-byte : (file : Answer Numbered (List ℕ)) (before after : List ℕ) (p : Placed) (x : Numbered)
     → Leaves file before after p → placedAs p ≡ refused x → after ≡ before

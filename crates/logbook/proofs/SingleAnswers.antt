@@ -12,7 +12,6 @@ use Rattle.logbook.specs.Placing.{placedAs}
 use Rattle.logbook.specs.declared.Placed.{Placed}
 use Rattle.logbook.specs.declared.Placed.the-variants.{Done, BreaksRules, TooShort, Broken, NoRecord}
 use Rattle.logbook.proofs.place.Reads as place
-use Rattle.logbook.proofs.empty.Reads as empty
 use Rattle.logbook.proofs.write.Reads as write
 use Rattle.logbook.proofs.take_out.Reads as take-out
 
@@ -36,13 +35,6 @@ single-place κs a r r′ s s′ p q =
 
 pub single-place-left : SingleLeft place.Post (λ κs s. s .0 .now)
 single-place-left κs a r r′ s s′ p q = p (the-rule .0) (the-rule .1) .bytes ∙ sym (q (the-rule .0) (the-rule .1) .bytes)
-
-pub single-empty : Single empty.Post
-single-empty κs a r r′ s s′ p q =
-    sym (case-back r) ∙ ap case-of (p (the-rule .0) (the-rule .1) .answer ∙ sym (q (the-rule .0) (the-rule .1) .answer)) ∙ case-back r′
-
-pub single-empty-left : SingleLeft empty.Post (λ κs s. s .0 .now)
-single-empty-left κs a r r′ s s′ p q = p (the-rule .0) (the-rule .1) .bytes ∙ sym (q (the-rule .0) (the-rule .1) .bytes)
 
 pub single-write : Single write.Post
 single-write κs a r r′ s s′ p q =

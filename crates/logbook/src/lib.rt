@@ -1,6 +1,5 @@
 // The logbook: a watch file in a lent buffer, into which records are written, put in their place and taken out.
 ghost use mathlib.Core.Path.{_≡_};
-ghost use mathlib.Core.List.{[]};
 ghost use Prim.Native.Nat.{ℕ, _+_, _≤_};
 ghost use Rattle.number.specs.Refusal.{given};
 ghost use lib.IntN.{ℤ};
@@ -172,13 +171,6 @@ pub fn place(file: &mut [u8], size: usize, r: Record) -> Placed
             write_with(file, records, count, r)
         }
     }
-}
-
-// Writes a watch file without records.
-pub fn empty(file: &mut [u8]) -> Placed
-    ensures { λ p. ⌜ ((rule : ℕ → ℤ) → DewRule rule → Leaves (writingAll rule (length (now (file .entry))) []) (now (file .entry)) (now (file .exit)) p) ⌝ }
-{
-    written(write(file, [BLANK; RECORDS], 0))
 }
 
 // ---- a record taken out

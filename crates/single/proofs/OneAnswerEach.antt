@@ -175,7 +175,6 @@ use Rattle.desk.proofs.tendency_record.Reads as desk-tendency-record
 use Rattle.desk.proofs.wind_record.Reads as desk-wind-record
 use Rattle.desk.proofs.humidity_record.Reads as desk-humidity-record
 use Rattle.logbook.proofs.place.Reads as logbook-place
-use Rattle.logbook.proofs.empty.Reads as logbook-empty
 use Rattle.logbook.proofs.write.Reads as logbook-write
 use Rattle.logbook.proofs.take_out.Reads as logbook-take-out
 use Rattle.answer.proofs.SingleAnswers as answer
@@ -455,8 +454,6 @@ pub record OneAnswerEach : Type 0 where
   pub desk-humidity-record-single : Single desk-humidity-record.Post
   pub logbook-place-single : Single logbook-place.Post
   pub logbook-place-left : SingleLeft logbook-place.Post (λ κs s. s .0 .now)
-  pub logbook-empty-single : Single logbook-empty.Post
-  pub logbook-empty-left : SingleLeft logbook-empty.Post (λ κs s. s .0 .now)
   pub logbook-write-single : Single logbook-write.Post
   pub logbook-write-left : SingleLeft logbook-write.Post (λ κs s. s .0 .now)
   pub logbook-take-out-single : Single logbook-take-out.Post
@@ -753,8 +750,6 @@ one-answer-each =
       desk-humidity-record-single = desk.single-humidity-record;
       logbook-place-single = logbook.single-place;
       logbook-place-left = logbook.single-place-left;
-      logbook-empty-single = logbook.single-empty;
-      logbook-empty-left = logbook.single-empty-left;
       logbook-write-single = logbook.single-write;
       logbook-write-left = logbook.single-write-left;
       logbook-take-out-single = logbook.single-take-out;
