@@ -1,6 +1,8 @@
 //! The tool's commands and their words, once for the command line, where each is told the watch's folder, and once for the prompt,
 //! which has it.
 
+use std::path::PathBuf;
+
 use clap::builder::PossibleValuesParser;
 use clap::{Arg, ArgAction, Command};
 
@@ -22,6 +24,11 @@ const EXIT: &str = "Exit status: 0 done, 1 refused by one of the station's numbe
 
 fn arg(name: &'static str, help: &'static str) -> Arg {
     Arg::new(name).required(true).help(help)
+}
+
+/// A file or a folder, whose name need not be text.
+fn file(name: &'static str, help: &'static str) -> Arg {
+    arg(name, help).value_parser(clap::value_parser!(PathBuf))
 }
 
 fn flag(name: &'static str, help: &'static str) -> Arg {
@@ -55,7 +62,7 @@ fn replace() -> Arg {
 fn on_watch(place: Place, name: &'static str, about: &'static str) -> Command {
     let command = Command::new(name).about(about).allow_negative_numbers(true);
     match place {
-        Place::CommandLine => command.arg(arg("FOLDER", "The watch's folder")),
+        Place::CommandLine => command.arg(file("FOLDER", "The watch's folder")),
         Place::Prompt => command,
     }
 }
@@ -151,7 +158,7 @@ fn save(place: Place) -> Command {
         "save",
         "Saves the log as a watch file: whole, or not at all",
     )
-    .arg(arg("FILE", "The watch file"))
+    .arg(file("FILE", "The watch file"))
     .arg(
         Arg::new("sheet")
             .long("sheet")
@@ -168,14 +175,14 @@ fn load(place: Place) -> Command {
         "load",
         "Puts the records of a watch file into the log",
     )
-    .arg(arg("FILE", "The watch file"))
+    .arg(file("FILE", "The watch file"))
     .arg(replace())
 }
 
 fn list() -> Command {
     Command::new("list")
         .about("Lists a watch file")
-        .arg(arg("FILE", "The watch file, or - for standard input"))
+        .arg(file("FILE", "The watch file, or - for standard input"))
         .args(forms())
 }
 
@@ -184,7 +191,13 @@ fn plot(place: Place) -> Command {
     on_watch(place, "plot", "Draws the barometer, the wind or humidity, here or as a picture; gaps are gaps, and named")
         .arg(arg("SUBJECT", "What is drawn").value_parser(subjects))
         .arg(Arg::new("WHEN").help("A stretch of minutes or times, as 400..1081. Without it what is kept, 256 minutes"))
-        .arg(Arg::new("output").short('o').long("output").value_name("FILE.svg").help("The picture's file; without it the terminal"))
+        .arg(
+            file("output", "The picture's file; without it the terminal")
+                .required(false)
+                .short('o')
+                .long("output")
+                .value_name("FILE.svg"),
+        )
         .arg(flag("ascii", "In the terminal, with plain letters alone"))
         .arg(replace())
         .after_help(
@@ -209,12 +222,14 @@ fn settings(place: Place) -> Command {
 }
 
 fn keep(place: Place) -> Command {
-    let from = Arg::new("from")
-        .value_name("FILE|DEVICE|-")
-        .help("Where messages come from: a file, a device, or - for standard input");
+    let from = file(
+        "from",
+        "Where messages come from: a file, a device, or - for standard input",
+    )
+    .value_name("FILE|DEVICE|-");
     let from = match place {
-        Place::CommandLine => from.long("from").required(true),
-        Place::Prompt => from.required(true),
+        Place::CommandLine => from.long("from"),
+        Place::Prompt => from,
     };
     on_watch(place, "keep", "Hears messages of 16 bytes, each written to the journal before it is heard")
         .arg(from)
@@ -229,7 +244,7 @@ fn keep(place: Place) -> Command {
                 .help("How many messages are written at a time, where so many are there"),
         )
         .after_help(
-            "Bytes are cut into messages of 16 (docs/FORMAT.md). From a device it goes on until Ctrl-C. Several may keep one watch:\n\
+            "Bytes are cut into messages of 16 (docs/FORMAT.md). From a device it goes on until Ctrl-C; `stty -F DEVICE raw 9600` sets its line. Several may keep one watch:\n\
              one from each device, and entries by hand besides.",
         )
 }
@@ -248,13 +263,11 @@ pub fn all(place: Place) -> Command {
             .subcommand(
                 Command::new("init")
                     .about("Begins a watch: a folder with its settings and an empty journal")
-                    .arg(arg("FOLDER", "The folder that is made"))
+                    .arg(file("FOLDER", "The folder that is made"))
                     .arg(
-                        Arg::new("settings")
+                        file("settings", "The station.toml to begin with")
                             .long("settings")
-                            .value_name("FILE")
-                            .required(true)
-                            .help("The station.toml to begin with"),
+                            .value_name("FILE"),
                     ),
             )
             .after_help(EXIT);

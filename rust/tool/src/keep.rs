@@ -3,7 +3,7 @@
 use std::fs::{self, File};
 use std::io::{self, Read, Write};
 use std::path::Path;
-use std::sync::{Arc, Mutex, MutexGuard};
+use std::sync::{Mutex, MutexGuard};
 
 use zhitomrak::Refused;
 
@@ -115,15 +115,15 @@ fn told(watch: &Watch, bytes: &[u8], came_to: &Outcome) -> String {
 }
 
 /// Where messages come from, and how many bytes they are where that is known.
-fn source(from: &str) -> Result<(Box<dyn Read>, u64)> {
-    if from == "-" {
+fn source(path: &Path) -> Result<(Box<dyn Read>, u64)> {
+    if path.as_os_str() == "-" {
         return Ok((Box::new(io::stdin()), 0));
     }
-    let path = Path::new(from);
     let there = fs::metadata(path).map_err(cannot("read", path))?;
     if there.is_dir() {
         return Err(fault!(
-            "cannot read {from}: it is a folder; messages come from a file or a device"
+            "cannot read {}: it is a folder; messages come from a file or a device",
+            path.display()
         ));
     }
     let file = File::open(path).map_err(cannot("read", path))?;
@@ -133,48 +133,50 @@ fn source(from: &str) -> Result<(Box<dyn Read>, u64)> {
     ))
 }
 
-/// What was kept so far, and whether all of it was told.
+/// What was kept so far.
 struct So {
     counts: Counts,
     out: Box<dyn Write + Send>,
 }
 
-fn lock(so: &Mutex<So>) -> MutexGuard<'_, So> {
-    so.lock().unwrap_or_else(|poisoned| poisoned.into_inner())
+/// What is being kept now. Who has the lock sees nothing half written.
+static NOW: Mutex<Option<So>> = Mutex::new(None);
+
+fn now() -> MutexGuard<'static, Option<So>> {
+    NOW.lock().unwrap_or_else(|poisoned| poisoned.into_inner())
+}
+
+/// Tells the counts, where something was being kept.
+fn tell(manner: Manner) -> io::Result<()> {
+    match now().take() {
+        Some(mut so) => so
+            .out
+            .write_all(manner.told(&so.counts).as_bytes())
+            .and_then(|()| so.out.flush()),
+        None => Ok(()),
+    }
 }
 
 /// Hears everything that comes, up to its end; or until Ctrl-C, or until it is told to end, between two messages. The counts are told
 /// in any case.
 pub fn keep(
     watch: &mut Watch,
-    from: &str,
+    from: &Path,
     manner: Manner,
     out: Box<dyn Write + Send>,
 ) -> Result<()> {
     let (mut bytes, total) = source(from)?;
-    let so = Arc::new(Mutex::new(So {
+    *now() = Some(So {
         counts: Counts::new(),
         out,
-    }));
-    let at_end = Arc::clone(&so);
-    // at a prompt there is a handler from the second time on; Ctrl-C then ends as it does elsewhere
-    let _ = ctrlc::set_handler(move || {
-        // nothing is half written while this has the lock
-        let mut so = lock(&at_end);
-        let text = manner.told(&so.counts);
-        let told = so
-            .out
-            .write_all(text.as_bytes())
-            .and_then(|()| so.out.flush());
-        std::process::exit(if told.is_ok() { 0 } else { 3 });
     });
+    // at a prompt there is one already from the second time on, which does the same
+    let _ =
+        ctrlc::set_handler(move || std::process::exit(if tell(manner).is_ok() { 0 } else { 3 }));
     let progress = Progress::new("hears the messages", total);
-    let done = hear(watch, &mut *bytes, from, manner, &so, &progress);
+    let done = hear(watch, &mut *bytes, from, manner, &progress);
     drop(progress);
-    let mut so = lock(&so);
-    let text = manner.told(&so.counts);
-    let out = &mut so.out;
-    let told = out.write_all(text.as_bytes()).and_then(|()| out.flush());
+    let told = tell(manner);
     done?;
     told.map_err(cannot_tell)
 }
@@ -190,9 +192,8 @@ pub fn cannot_tell(error: io::Error) -> Fault {
 fn hear(
     watch: &mut Watch,
     from: &mut dyn Read,
-    name: &str,
+    name: &Path,
     manner: Manner,
-    so: &Mutex<So>,
     progress: &Progress,
 ) -> Result<()> {
     let mut bytes = vec![0; manner.at_a_time * 16];
@@ -201,7 +202,7 @@ fn hear(
     loop {
         let got = match from.read(&mut bytes[filled..]) {
             Err(error) if error.kind() == io::ErrorKind::Interrupted => continue,
-            got => got.map_err(cannot("read", Path::new(name)))?,
+            got => got.map_err(cannot("read", name))?,
         };
         filled += got;
         // at the end what is too short for a message is one all the same, and is refused
@@ -212,8 +213,10 @@ fn hear(
         };
         let sent: Vec<Sent> = Sent::messages(&bytes[..whole]).collect();
         if !sent.is_empty() {
-            let mut so = lock(so);
+            // who ends it now has to wait until this is kept and told
+            let mut now = now();
             let came_to = watch.keep(&sent)?;
+            let Some(so) = &mut *now else { return Ok(()) };
             for (message, came_to) in bytes[..whole].chunks(16).zip(&came_to) {
                 so.counts.add(came_to);
                 if manner.verbose {

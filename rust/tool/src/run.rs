@@ -79,7 +79,7 @@ fn word<'a>(told: &'a ArgMatches, name: &str) -> &'a str {
 }
 
 fn path(told: &ArgMatches, name: &str) -> PathBuf {
-    PathBuf::from(word(told, name))
+    told.get_one::<PathBuf>(name).cloned().unwrap_or_default()
 }
 
 fn form(told: &ArgMatches) -> Form {
@@ -157,7 +157,7 @@ fn keep(told: &ArgMatches, desk: &mut Desk) -> Result<Done> {
             .into(),
     };
     let watch = desk.watch(told, Access::Write)?;
-    keep::keep(watch, word(told, "from"), manner, Box::new(io::stdout()))?;
+    keep::keep(watch, &path(told, "from"), manner, Box::new(io::stdout()))?;
     Ok(Done::Well)
 }
 
@@ -508,7 +508,7 @@ fn unicode() -> bool {
 fn draw(told: &ArgMatches, desk: &mut Desk, out: &mut dyn Write) -> Result<Done> {
     let when = told.get_one::<String>("WHEN").map(String::as_str);
     let (picture, _) = plot::picture(&desk.folder(told), word(told, "SUBJECT"), when)?;
-    let Some(to) = told.get_one::<String>("output").map(PathBuf::from) else {
+    let Some(to) = told.get_one::<PathBuf>("output").cloned() else {
         let size = io::stdout()
             .is_terminal()
             .then(terminal_size::terminal_size)
