@@ -22,6 +22,15 @@ macro_rules! fault {
 }
 pub(crate) use fault;
 
+/// A line on standard error. Where it cannot be written, as on a full disk, the work goes on without it.
+macro_rules! say {
+    ($($words:tt)*) => {{
+        use std::io::Write as _;
+        let _ = writeln!(std::io::stderr(), "zhitomrak: {}", format_args!($($words)*));
+    }};
+}
+pub(crate) use say;
+
 /// The words of an error of the system, without its number.
 pub fn words(error: &io::Error) -> String {
     match error.kind() {

@@ -20,7 +20,7 @@ use zhitomrak::{
     Unit,
 };
 
-use crate::fault::{cannot, fault, words, Result};
+use crate::fault::{cannot, fault, say, words, Result};
 use crate::progress::Progress;
 
 /// The first line of a journal; its last word is the form's number.
@@ -447,10 +447,7 @@ impl Journal {
                 return Ok(false);
             }
             if !told && waited > Duration::from_secs(2) {
-                eprintln!(
-                    "zhitomrak: waits for another that writes to {}",
-                    self.path.display()
-                );
+                say!("waits for another that writes to {}", self.path.display());
                 told = true;
             }
             sleep(Duration::from_millis(5));

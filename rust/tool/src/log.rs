@@ -8,7 +8,7 @@ use std::path::{Path, PathBuf};
 use zhitomrak::watchfile::{Record, WatchFile, MAX_BYTES, MAX_RECORDS};
 use zhitomrak::Kind;
 
-use crate::fault::{cannot, fault, Result};
+use crate::fault::{cannot, fault, say, Result};
 use crate::files::{self, Old};
 use crate::sheet::refusal;
 
@@ -76,7 +76,7 @@ impl Log {
             }
             match read(&path) {
                 Ok(file) => log.sheets.push(Sheet { number, path, file }),
-                Err(why) => eprintln!("zhitomrak: {why}; that sheet of the log is left as it is"),
+                Err(why) => say!("{why}; that sheet of the log is left as it is"),
             }
         }
         Ok(log)

@@ -29,7 +29,7 @@ use std::io::{self, BufWriter, Write};
 use std::process::ExitCode;
 
 use commands::{all, Place};
-use fault::Fault;
+use fault::{say, Fault};
 use run::{run, Desk, Done};
 
 fn main() -> ExitCode {
@@ -45,7 +45,7 @@ fn main() -> ExitCode {
         Ok(_) => ExitCode::SUCCESS,
         Err(Fault(words)) => {
             for line in words.lines() {
-                eprintln!("zhitomrak: {line}");
+                say!("{line}");
             }
             ExitCode::from(3)
         }

@@ -6,6 +6,8 @@ use std::time::{Duration, Instant};
 
 use indicatif::{ProgressBar, ProgressStyle};
 
+use crate::fault::say;
+
 /// What takes this many bytes or fewer is done before a person could read of it.
 const SHORT: u64 = 8 << 20;
 
@@ -47,7 +49,7 @@ impl Progress {
         match &self.bar {
             Some(bar) => bar.set_position(done),
             None if self.total > SHORT && self.told.get().elapsed() > Duration::from_secs(3) => {
-                eprintln!("zhitomrak: {}: {} %", self.what, done * 100 / self.total);
+                say!("{}: {} %", self.what, done * 100 / self.total);
                 self.told.set(Instant::now());
             }
             None => {}

@@ -10,7 +10,7 @@ use rustyline::{CompletionType, Config, Context, Editor};
 
 use crate::answers::{question, QUESTIONS};
 use crate::commands::{all, Place};
-use crate::fault::{cannot, fault, Result};
+use crate::fault::{cannot, fault, say, Result};
 use crate::hand::INSTRUMENTS;
 use crate::journal::Access;
 use crate::keep::cannot_tell;
@@ -157,7 +157,7 @@ pub fn shell(folder: &Path) -> Result<Done> {
             Ok(Done::Quit) => break,
             Ok(refused) => done = done.map(|before| before.max(refused)),
             Err(why) => {
-                eprintln!("zhitomrak: {why}");
+                say!("{why}");
                 done = Err(fault!("not every line could be done"));
             }
         }
@@ -177,11 +177,13 @@ fn at_terminal(watch: &mut Watch) -> Result<Done> {
     let history = watch.folder().join("history");
     // a watch without one has none yet
     let _ = editor.load_history(&history);
-    println!(
+    writeln!(
+        io::stdout(),
         "{}: {} messages and entries. `help` lists the commands, Ctrl-D or `quit` ends.",
         watch.folder().display(),
         watch.count()
-    );
+    )
+    .map_err(cannot_tell)?;
     loop {
         match editor.readline("zhitomrak> ") {
             Ok(line) => {
@@ -191,7 +193,7 @@ fn at_terminal(watch: &mut Watch) -> Result<Done> {
                 match answered {
                     Ok(Done::Quit) => return Ok(Done::Well),
                     Ok(_) => {}
-                    Err(why) => eprintln!("zhitomrak: {why}"),
+                    Err(why) => say!("{why}"),
                 }
             }
             // Ctrl-C takes back the line

@@ -8,7 +8,7 @@ use std::path::{Path, PathBuf};
 
 use zhitomrak::{Channel, Refused, Settings, Store};
 
-use crate::fault::{cannot, fault, Result};
+use crate::fault::{cannot, fault, say, Result};
 use crate::files;
 use crate::journal::{self, Access, Journal, Sent};
 use crate::minutes::Clock;
@@ -133,8 +133,8 @@ impl Watch {
         };
         if watch.spare.is_some_and(|written| written != kept) {
             let sheet = folder.join(SHEET);
-            eprintln!(
-                "zhitomrak: {} has other settings than this watch was begun with, which it keeps; for new ones begin a new watch",
+            say!(
+                "{} has other settings than this watch was begun with, which it keeps; for new ones begin a new watch",
                 sheet.display()
             );
         }
@@ -148,7 +148,7 @@ impl Watch {
                 self.clock = Clock::new(sheet.epoch);
                 self.spare = Some(sheet.settings);
             }
-            Err(why) => eprintln!("zhitomrak: {why}\nzhitomrak: the watch keeps the settings it was begun with; minutes have no times"),
+            Err(why) => say!("{why}\nzhitomrak: the watch keeps the settings it was begun with; minutes have no times"),
         }
     }
 
@@ -177,7 +177,7 @@ impl Watch {
                     **store = opened;
                     *open = true;
                     if !matches!(sent, Sent::Opening(_)) {
-                        eprintln!("zhitomrak: the journal's own settings cannot be read; those of station.toml are taken");
+                        say!("the journal's own settings cannot be read; those of station.toml are taken");
                     }
                 }
             }
@@ -191,7 +191,7 @@ impl Watch {
             Access::Write => journal.append(sent, &mut to_store, progress),
         };
         for found in self.journal.take_found() {
-            eprintln!("zhitomrak: {}", found.words(self.journal.path()));
+            say!("{}", found.words(self.journal.path()));
         }
         done
     }
