@@ -38,12 +38,22 @@ fn kind(there: fs::FileType) -> &'static str {
     }
 }
 
+/// Refuses what is there and is no file. This is asked before it is opened: a pipe would wait for its other end, a device might not end.
+pub fn ordinary(what: &str, path: &Path) -> Result<()> {
+    match fs::metadata(path) {
+        Ok(there) if !there.is_file() => Err(fault!(
+            "cannot {what} {}: it is {}",
+            path.display(),
+            kind(there.file_type())
+        )),
+        Err(error) if error.kind() != io::ErrorKind::NotFound => Err(cannot(what, path)(error)),
+        _ => Ok(()),
+    }
+}
+
 /// The bytes of a file, up to so many; a longer one is cut there.
 pub fn read(path: &Path, most: u64) -> Result<Vec<u8>> {
-    let there = fs::metadata(path).map_err(cannot("read", path))?;
-    if there.is_dir() {
-        return Err(fault!("cannot read {}: it is a folder", path.display()));
-    }
+    ordinary("read", path)?;
     let file = File::open(path).map_err(cannot("read", path))?;
     let mut bytes = Vec::new();
     file.take(most)
@@ -152,4 +162,28 @@ fn beside(parent: &Path, name: &OsStr) -> io::Result<(File, TempPath)> {
         }
     }
     unreachable!("there are more numbers than files")
+}
+
+#[cfg(test)]
+mod tests {
+    use super::*;
+
+    #[test]
+    fn what_is_no_file_is_refused_before_it_is_opened() {
+        let folder = tempfile::tempdir().unwrap();
+        let of = |name: &str| folder.path().join(name);
+        let _socket = std::os::unix::net::UnixListener::bind(of("socket")).unwrap();
+        for (path, what) in [
+            (folder.path().to_path_buf(), "a folder"),
+            (of("socket"), "a socket"),
+            ("/dev/null".into(), "a device"),
+        ] {
+            let wanted = format!("cannot read {}: it is {what}", path.display());
+            assert_eq!(read(&path, 9).unwrap_err().0, wanted);
+        }
+        let told = read(&of("nothing"), 9).unwrap_err().0;
+        assert!(told.ends_with("nothing: it is not there"), "{told}");
+        fs::write(of("file"), b"1234567890").unwrap();
+        assert_eq!(read(&of("file"), 9).unwrap(), b"123456789");
+    }
 }

@@ -21,6 +21,7 @@ use zhitomrak::{
 };
 
 use crate::fault::{cannot, fault, say, words, Result};
+use crate::files;
 use crate::progress::Progress;
 
 /// The first line of a journal; its last word is the form's number.
@@ -390,17 +391,12 @@ impl Journal {
             Access::Write => "write to",
         };
         let writes = access == Access::Write;
+        files::ordinary(what, path)?;
         let file = OpenOptions::new()
             .read(true)
             .append(writes)
             .open(path)
             .map_err(cannot(what, path))?;
-        if !file.metadata().map_err(cannot("read", path))?.is_file() {
-            return Err(fault!(
-                "{} is no journal: it is no ordinary file",
-                path.display()
-            ));
-        }
         let path = path.to_path_buf();
         Ok(Journal {
             path,
@@ -620,6 +616,7 @@ impl Journal {
     fn mend(&mut self, tail: Tail, each: &mut dyn FnMut(&Sent)) -> Result<()> {
         if !tail.rest.is_empty() {
             let aside = self.path.with_file_name("torn");
+            files::ordinary("write", &aside)?;
             let mut file = OpenOptions::new()
                 .create(true)
                 .append(true)

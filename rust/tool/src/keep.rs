@@ -2,6 +2,7 @@
 
 use std::fs::{self, File};
 use std::io::{self, Read, Write};
+use std::os::unix::fs::MetadataExt;
 use std::path::Path;
 use std::sync::{Mutex, MutexGuard};
 
@@ -12,7 +13,7 @@ use crate::hand::instrument;
 use crate::journal::Sent;
 use crate::progress::Progress;
 use crate::sheet::refusal;
-use crate::watch::{Outcome, Watch};
+use crate::watch::{Outcome, Watch, JOURNAL};
 
 /// How many messages came to what: heard at 0, and by the numbers of refusals.
 #[derive(Clone)]
@@ -115,7 +116,7 @@ fn told(watch: &Watch, bytes: &[u8], came_to: &Outcome) -> String {
 }
 
 /// Where messages come from, and how many bytes they are where that is known.
-fn source(path: &Path) -> Result<(Box<dyn Read>, u64)> {
+fn source(watch: &Watch, path: &Path) -> Result<(Box<dyn Read>, u64)> {
     if path.as_os_str() == "-" {
         return Ok((Box::new(io::stdin()), 0));
     }
@@ -123,6 +124,14 @@ fn source(path: &Path) -> Result<(Box<dyn Read>, u64)> {
     if there.is_dir() {
         return Err(fault!(
             "cannot read {}: it is a folder; messages come from a file or a device",
+            path.display()
+        ));
+    }
+    let itself =
+        |journal: fs::Metadata| (journal.dev(), journal.ino()) == (there.dev(), there.ino());
+    if fs::metadata(watch.folder().join(JOURNAL)).is_ok_and(itself) {
+        return Err(fault!(
+            "cannot read {}: it is the journal that is written to",
             path.display()
         ));
     }
@@ -165,7 +174,7 @@ pub fn keep(
     manner: Manner,
     out: Box<dyn Write + Send>,
 ) -> Result<()> {
-    let (mut bytes, total) = source(from)?;
+    let (mut bytes, total) = source(watch, from)?;
     *now() = Some(So {
         counts: Counts::new(),
         out,

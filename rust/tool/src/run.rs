@@ -45,11 +45,13 @@ impl<'a> Desk<'a> {
         }
     }
 
-    fn folder(&self, told: &ArgMatches) -> PathBuf {
-        match &self.at_prompt {
-            Some(watch) => watch.folder().to_path_buf(),
-            None => path(told, "FOLDER"),
+    /// The watch's folder, for one who needs no journal.
+    fn folder(&self, told: &ArgMatches) -> Result<PathBuf> {
+        if let Some(watch) = &self.at_prompt {
+            return Ok(watch.folder().to_path_buf());
         }
+        let folder = path(told, "FOLDER");
+        watch::is_one(&folder).map(|()| folder)
     }
 
     /// The watch, with everything that was written so far.
@@ -346,7 +348,7 @@ fn records(file: &WatchFile, form: Form, clock: &Clock, out: &mut dyn Write) -> 
 
 fn show(told: &ArgMatches, desk: &mut Desk, out: &mut dyn Write) -> Result<Done> {
     let (clock, form) = (desk.clock(told), form(told));
-    let log = Log::open(&desk.folder(told))?;
+    let log = Log::open(&desk.folder(told)?)?;
     if log.sheets().is_empty() && form == Form::Words {
         tell!(out, "the log is empty")?;
     }
@@ -366,7 +368,7 @@ fn show(told: &ArgMatches, desk: &mut Desk, out: &mut dyn Write) -> Result<Done>
 
 fn take_out(told: &ArgMatches, desk: &mut Desk, out: &mut dyn Write) -> Result<Done> {
     let (clock, kind) = (desk.clock(told), kind(told)?);
-    let mut log = Log::open(&desk.folder(told))?;
+    let mut log = Log::open(&desk.folder(told)?)?;
     let newest = log.records().last().map(|(_, record)| record.minute());
     let minute = clock.minute(word(told, "WHEN"), newest)?;
     match log.take_out(kind, minute)? {
@@ -402,7 +404,7 @@ fn own(path: &Path) -> Result<()> {
 fn save(told: &ArgMatches, desk: &mut Desk, out: &mut dyn Write) -> Result<Done> {
     let to = path(told, "FILE");
     own(&to)?;
-    let log = Log::open(&desk.folder(told))?;
+    let log = Log::open(&desk.folder(told)?)?;
     let sheets = log.sheets();
     let sheet = match (told.get_one::<usize>("sheet"), sheets) {
         (_, []) => return Err(fault!("the log is empty: there is nothing to save")),
@@ -432,7 +434,7 @@ fn save(told: &ArgMatches, desk: &mut Desk, out: &mut dyn Write) -> Result<Done>
 fn load(told: &ArgMatches, desk: &mut Desk, out: &mut dyn Write) -> Result<Done> {
     let from = path(told, "FILE");
     let file = log::read(&from)?;
-    let mut log = Log::open(&desk.folder(told))?;
+    let mut log = Log::open(&desk.folder(told)?)?;
     let (clock, old) = (desk.clock(told), old(told));
     let (mut new, mut there, mut other) = (0, 0, 0);
     for record in &file {
@@ -507,7 +509,7 @@ fn unicode() -> bool {
 
 fn draw(told: &ArgMatches, desk: &mut Desk, out: &mut dyn Write) -> Result<Done> {
     let when = told.get_one::<String>("WHEN").map(String::as_str);
-    let (picture, _) = plot::picture(&desk.folder(told), word(told, "SUBJECT"), when)?;
+    let (picture, _) = plot::picture(&desk.folder(told)?, word(told, "SUBJECT"), when)?;
     let Some(to) = told.get_one::<PathBuf>("output").cloned() else {
         let size = io::stdout()
             .is_terminal()

@@ -72,6 +72,23 @@ pub fn init(folder: &Path, settings: &Path) -> Result<()> {
     files::sync_folder(parent).map_err(failed())
 }
 
+/// Whether a folder is a watch; where not, that is told in words.
+pub fn is_one(folder: &Path) -> Result<()> {
+    let there = fs::metadata(folder).map_err(cannot("open the watch", folder))?;
+    if !there.is_dir() {
+        return Err(fault!("{} is no watch: it is no folder", folder.display()));
+    }
+    if fs::symlink_metadata(folder.join(JOURNAL))
+        .is_err_and(|error| error.kind() == std::io::ErrorKind::NotFound)
+    {
+        return Err(fault!(
+            "{} is no watch: it has no journal; `zhitomrak init` makes one",
+            folder.display()
+        ));
+    }
+    Ok(())
+}
+
 /// What a watch's station.toml says.
 fn read_sheet(folder: &Path) -> Result<sheet::Sheet> {
     let path = folder.join(SHEET);
@@ -96,18 +113,7 @@ impl Watch {
     /// The same, and each line is handed on once it was sent.
     pub fn open_with(folder: &Path, access: Access, each: Each) -> Result<Watch> {
         let path = folder.join(JOURNAL);
-        let there = fs::metadata(folder).map_err(cannot("open the watch", folder))?;
-        if !there.is_dir() {
-            return Err(fault!("{} is no watch: it is no folder", folder.display()));
-        }
-        if fs::symlink_metadata(&path)
-            .is_err_and(|error| error.kind() == std::io::ErrorKind::NotFound)
-        {
-            return Err(fault!(
-                "{} is no watch: it has no journal; `zhitomrak init` makes one",
-                folder.display()
-            ));
-        }
+        is_one(folder)?;
         let journal = Journal::open(&path, access)?;
         let mut watch = Watch {
             folder: folder.to_path_buf(),
