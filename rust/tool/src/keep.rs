@@ -8,7 +8,7 @@ use std::sync::{Mutex, MutexGuard};
 
 use zhitomrak::Refused;
 
-use crate::fault::{cannot, counted, fault, words, Fault, Result};
+use crate::fault::{cannot, counted, fault, say, words, Fault, Result};
 use crate::hand::instrument;
 use crate::journal::Sent;
 use crate::progress::Progress;
@@ -145,6 +145,8 @@ fn source(watch: &Watch, path: &Path) -> Result<(Box<dyn Read>, u64)> {
 /// What was kept so far.
 struct So {
     counts: Counts,
+    /// How many bytes of the next message have come.
+    begun: usize,
     out: Box<dyn Write + Send>,
 }
 
@@ -155,15 +157,17 @@ fn now() -> MutexGuard<'static, Option<So>> {
     NOW.lock().unwrap_or_else(|poisoned| poisoned.into_inner())
 }
 
-/// Tells the counts, where something was being kept.
+/// Tells the counts, where something was being kept, and a message that had half come.
 fn tell(manner: Manner) -> io::Result<()> {
-    match now().take() {
-        Some(mut so) => so
-            .out
-            .write_all(manner.told(&so.counts).as_bytes())
-            .and_then(|()| so.out.flush()),
-        None => Ok(()),
+    let Some(mut so) = now().take() else {
+        return Ok(());
+    };
+    if so.begun > 0 {
+        let begun = counted(so.begun, "byte");
+        say!("of the last message only {begun} had come; that is not kept");
     }
+    so.out.write_all(manner.told(&so.counts).as_bytes())?;
+    so.out.flush()
 }
 
 /// Hears everything that comes, up to its end; or until Ctrl-C, or until it is told to end, between two messages. The counts are told
@@ -177,6 +181,7 @@ pub fn keep(
     let (mut bytes, total) = source(watch, from)?;
     *now() = Some(So {
         counts: Counts::new(),
+        begun: 0,
         out,
     });
     // at a prompt there is one already from the second time on, which does the same
@@ -221,11 +226,12 @@ fn hear(
             filled - filled % 16
         };
         let sent: Vec<Sent> = Sent::messages(&bytes[..whole]).collect();
+        // who ends it now has to wait until this is kept and told
+        let mut now = now();
+        let Some(so) = &mut *now else { return Ok(()) };
+        so.begun = filled - whole;
         if !sent.is_empty() {
-            // who ends it now has to wait until this is kept and told
-            let mut now = now();
             let came_to = watch.keep(&sent)?;
-            let Some(so) = &mut *now else { return Ok(()) };
             for (message, came_to) in bytes[..whole].chunks(16).zip(&came_to) {
                 so.counts.add(came_to);
                 if manner.verbose {
@@ -234,6 +240,7 @@ fn hear(
             }
             so.out.flush().map_err(cannot_tell)?;
         }
+        drop(so);
         if got == 0 {
             return Ok(());
         }

@@ -32,6 +32,11 @@ use commands::{all, Place};
 use fault::{say, Fault};
 use run::{run, Desk, Done};
 
+/// The commands that change something: none of them ends without a word.
+const CHANGES: [&str; 8] = [
+    "init", "keep", "reading", "dial", "log", "drop", "save", "load",
+];
+
 fn main() -> ExitCode {
     let told = all(Place::CommandLine).get_matches();
     let Some((name, told)) = told.subcommand() else {
@@ -44,6 +49,10 @@ fn main() -> ExitCode {
         Ok(Done::Refused) => ExitCode::from(1),
         Ok(_) => ExitCode::SUCCESS,
         Err(Fault(words)) => {
+            // who only asked, and has read enough, need not be told
+            if words.is_empty() && CHANGES.contains(&name) {
+                say!("nobody reads what is told any more, and it ends here; what was done is kept");
+            }
             for line in words.lines() {
                 say!("{line}");
             }
