@@ -315,7 +315,7 @@ pub enum Found {
     Miscounted { line: u64 },
     /// Whole lines behind the last sum.
     Adopted { count: usize },
-    /// What is cut, behind the last line; set aside in a file where that could be done.
+    /// What is cut or damaged behind the last whole line; set aside in a file where that could be done.
     Torn {
         bytes: Vec<u8>,
         aside: Option<PathBuf>,
@@ -338,11 +338,14 @@ impl Found {
             ),
             Found::Torn { bytes, aside } => {
                 let shown = String::from_utf8_lossy(&bytes[..bytes.len().min(50)]);
-                let what = format!(
-                    "{name}: it ends in a line that was cut, {} bytes, `{}`; it was never acknowledged, and is not heard",
-                    bytes.len(),
-                    shown.escape_debug()
-                );
+                let shown = shown.escape_debug();
+                let length = bytes.len();
+                // a cut leaves no line's end; where there is one the lines are damaged, and may have had a sum
+                let what = if bytes.contains(&b'\n') {
+                    format!("{name}: its end is damaged, {length} bytes from `{shown}` on; what they said is not heard")
+                } else {
+                    format!("{name}: it ends in a line that was cut, {length} bytes, `{shown}`; it was never acknowledged, and is not heard")
+                };
                 match aside {
                     Some(path) => format!("{what}; it is set aside in {}", path.display()),
                     None => what,
@@ -373,6 +376,8 @@ pub struct Journal {
     count: u64,
     /// Whether a damaged group may hide how many there are.
     unsure: bool,
+    /// How many lines behind the last sum were handed on already.
+    ahead: usize,
     found: Vec<Found>,
 }
 
@@ -405,6 +410,7 @@ impl Journal {
             line: 0,
             count: 0,
             unsure: false,
+            ahead: 0,
             found: Vec::new(),
         })
     }
@@ -507,6 +513,7 @@ impl Journal {
 
     /// Hands on the lines of a group where its sum is right, and remembers what is not.
     fn take(&mut self, group: &Group, sum: &Sum, each: &mut dyn FnMut(&Sent)) {
+        let ahead = std::mem::take(&mut self.ahead);
         if !sum.right {
             self.found.push(Found::Damaged {
                 first: self.line + 1,
@@ -528,7 +535,7 @@ impl Journal {
             });
         }
         (self.count, self.unsure) = (sum.count, false);
-        group.sent.iter().for_each(each);
+        group.sent.iter().skip(ahead).for_each(each);
     }
 
     /// Reads what was written since, for one who only asks: nothing is changed. Whole lines behind the last sum are handed on too,
@@ -544,12 +551,14 @@ impl Journal {
         }
         let tail = tail?;
         if alone {
-            tail.whole.iter().for_each(each);
-            if !tail.whole.is_empty() {
+            let new = tail.whole.get(self.ahead..).unwrap_or_default();
+            new.iter().for_each(each);
+            if !new.is_empty() {
                 self.found.push(Found::Adopted {
                     count: tail.whole.len(),
                 });
             }
+            self.ahead = tail.whole.len();
             if !tail.rest.is_empty() {
                 self.found.push(Found::Torn {
                     bytes: tail.rest,
@@ -636,11 +645,18 @@ impl Journal {
         }
         if !tail.whole.is_empty() {
             let count = self.count + tail.whole.len() as u64;
+            let before = (self.place, self.line);
             self.place += tail.length as u64;
             self.line += tail.lines;
-            self.write(format!("#= {:08x} {count}\n", tail.sum).as_bytes())?;
+            let written = self.write(format!("#= {:08x} {count}\n", tail.sum).as_bytes());
+            if written.is_err() {
+                // they have no sum yet, and are read again
+                (self.place, self.line) = before;
+                return written;
+            }
             self.count = count;
-            tail.whole.iter().for_each(each);
+            let ahead = std::mem::take(&mut self.ahead);
+            tail.whole.iter().skip(ahead).for_each(each);
             self.found.push(Found::Adopted {
                 count: tail.whole.len(),
             });
