@@ -20,7 +20,7 @@ use zhitomrak::{
     Unit,
 };
 
-use crate::fault::{cannot, fault, say, words, Result};
+use crate::fault::{cannot, counted, fault, say, words, Result};
 use crate::files;
 use crate::progress::Progress;
 
@@ -339,12 +339,12 @@ impl Found {
             Found::Torn { bytes, aside } => {
                 let shown = String::from_utf8_lossy(&bytes[..bytes.len().min(50)]);
                 let shown = shown.escape_debug();
-                let length = bytes.len();
+                let length = counted(bytes.len(), "byte");
                 // a cut leaves no line's end; where there is one the lines are damaged, and may have had a sum
                 let what = if bytes.contains(&b'\n') {
-                    format!("{name}: its end is damaged, {length} bytes from `{shown}` on; what they said is not heard")
+                    format!("{name}: its end is damaged, {length} from `{shown}` on; what they said is not heard")
                 } else {
-                    format!("{name}: it ends in a line that was cut, {length} bytes, `{shown}`; it was never acknowledged, and is not heard")
+                    format!("{name}: it ends in a line that was cut, {length}, `{shown}`; it was never acknowledged, and is not heard")
                 };
                 match aside {
                     Some(path) => format!("{what}; it is set aside in {}", path.display()),
@@ -662,5 +662,365 @@ impl Journal {
             });
         }
         Ok(())
+    }
+}
+
+#[cfg(test)]
+mod tests {
+    use super::*;
+    use std::fs;
+    use tempfile::TempDir;
+
+    /// A folder in memory, where there is one: it is written to some thousand times.
+    fn folder() -> TempDir {
+        let memory = Path::new("/dev/shm");
+        if memory.is_dir() {
+            tempfile::tempdir_in(memory).unwrap()
+        } else {
+            tempfile::tempdir().unwrap()
+        }
+    }
+
+    fn settings() -> Settings {
+        opening("hPa 120 0 -2 662 8500:0 11000:4 anemometer 1:13 20:188").unwrap()
+    }
+
+    fn message(n: u8, length: usize) -> Sent {
+        let bytes: Vec<u8> = (0..16).map(|k| n.wrapping_mul(37) ^ (k * 11)).collect();
+        let sent = Sent::messages(&bytes[..length]).next();
+        sent.unwrap()
+    }
+
+    fn entry(minute: u32) -> Sent {
+        Sent::Entry(Entry {
+            minute,
+            direction: 300,
+            first: 9940,
+            second: 80,
+            seconds: 60,
+        })
+    }
+
+    /// What is sent, a group at a time: whole messages, short ones, and entries.
+    fn groups_sent() -> Vec<Vec<Sent>> {
+        vec![
+            vec![message(1, 16), message(2, 16), message(3, 16)],
+            vec![entry(600)],
+            vec![
+                message(4, 5),
+                message(5, 16),
+                message(6, 1),
+                entry(4_294_967_295),
+            ],
+            vec![message(7, 16), entry(0), message(8, 16)],
+            vec![message(9, 16), message(10, 15)],
+        ]
+    }
+
+    /// A journal of these groups, and where the head's group and each of these ends.
+    fn written(groups: &[Vec<Sent>]) -> (Vec<u8>, Vec<usize>) {
+        let folder = folder();
+        let path = folder.path().join("journal");
+        fs::write(&path, head(&settings())).unwrap();
+        let mut ends = vec![fs::read(&path).unwrap().len()];
+        for group in groups {
+            keep(&path, group);
+            ends.push(fs::read(&path).unwrap().len());
+        }
+        (fs::read(&path).unwrap(), ends)
+    }
+
+    /// What is handed on, without the opening, and what is found.
+    fn opened(path: &Path, access: Access, sent: &[Sent]) -> (Vec<Sent>, Vec<Found>) {
+        let mut journal = Journal::open(path, access).unwrap();
+        let mut heard = Vec::new();
+        let mut each = |sent: &Sent| match sent {
+            Sent::Opening(told) => assert_eq!(**told, settings()),
+            _ => heard.push(sent.clone()),
+        };
+        match access {
+            Access::Read => journal.look(&mut each, &Progress::silent()),
+            Access::Write => journal.append(sent, &mut each, &Progress::silent()),
+        }
+        .unwrap();
+        let found = journal.take_found();
+        for one in &found {
+            assert!(one.words(path).lines().count() == 1);
+        }
+        (heard, found)
+    }
+
+    fn look(path: &Path) -> (Vec<Sent>, Vec<Found>) {
+        opened(path, Access::Read, &[])
+    }
+
+    fn keep(path: &Path, sent: &[Sent]) -> (Vec<Sent>, Vec<Found>) {
+        opened(path, Access::Write, sent)
+    }
+
+    /// Where the line of each of these ends in the journal.
+    fn line_ends(bytes: &[u8], sent: &[Sent]) -> Vec<usize> {
+        let mut from = 0;
+        let ends = sent.iter().map(|one| {
+            let mut line = String::new();
+            one.put(&mut line);
+            let line = line.as_bytes();
+            let at = bytes[from..].windows(line.len()).position(|w| w == line);
+            from += at.unwrap() + line.len();
+            from
+        });
+        ends.collect()
+    }
+
+    /// Whether these are some of those, in their order.
+    fn are_of(these: &[Sent], those: &[Sent]) -> bool {
+        let mut those = those.iter();
+        these.iter().all(|one| those.any(|other| other == one))
+    }
+
+    #[test]
+    fn a_line_is_read_as_it_is_written() {
+        let mut sent: Vec<Sent> = groups_sent().concat();
+        sent.push(Sent::Opening(Box::new(settings())));
+        for one in sent {
+            let mut line = String::new();
+            one.put(&mut line);
+            assert_eq!(Sent::of(line.trim_end_matches('\n').as_bytes()), Some(one));
+        }
+        for line in [
+            "hear 0",
+            "hear 0g",
+            "hear 0G",
+            "hear",
+            "note 1 2 3 4",
+            "note 1 2 3 4 5 6",
+            "note 1 2 3 4 -5",
+            "open",
+            "open hPa 120 0 -2",
+            "open kPa 120 0 -2 662 8500:0",
+            "save x",
+            "",
+            " ",
+            "hear 000000000000000000000000000000000000",
+        ] {
+            assert_eq!(Sent::of(line.as_bytes()), None, "{line}");
+        }
+    }
+
+    #[test]
+    fn cut_at_every_byte_it_keeps_every_whole_line() {
+        let groups = groups_sent();
+        let sent = groups.concat();
+        let (bytes, ends) = written(&groups);
+        let lines = line_ends(&bytes, &sent);
+        assert!(sent.len() == 13 && bytes.len() > 500, "{}", bytes.len());
+        let folder = folder();
+        let (path, torn) = (folder.path().join("journal"), folder.path().join("torn"));
+        for cut in 0..=bytes.len() {
+            fs::write(&path, &bytes[..cut]).unwrap();
+            let _ = fs::remove_file(&torn);
+            // before the head's sum nothing is a watch's yet
+            let sum = ends
+                .iter()
+                .copied()
+                .filter(|&end| end <= cut)
+                .max()
+                .unwrap_or(0);
+            let whole = lines.iter().filter(|&&end| sum > 0 && end <= cut).count();
+            let adopted = lines
+                .iter()
+                .filter(|&&end| sum > 0 && end > sum && end <= cut)
+                .count();
+            let rest = &bytes[sum.max(if whole > 0 { lines[whole - 1] } else { 0 })..cut];
+            let told = |aside: Option<&Path>| {
+                let torn = (!rest.is_empty()).then(|| Found::Torn {
+                    bytes: rest.to_vec(),
+                    aside: aside.map(Path::to_path_buf),
+                });
+                let adopted = (adopted > 0).then_some(Found::Adopted { count: adopted });
+                (torn, adopted)
+            };
+
+            let (heard, found) = look(&path);
+            assert_eq!(heard, sent[..whole], "{cut}");
+            let (cut_line, kept) = told(None);
+            assert_eq!(
+                found,
+                kept.into_iter().chain(cut_line).collect::<Vec<_>>(),
+                "{cut}"
+            );
+            assert_eq!(fs::read(&path).unwrap(), bytes[..cut], "{cut}");
+            assert!(!torn.exists());
+
+            let new = [message(99, 16)];
+            let after = [&sent[..whole], &new].concat();
+            let (heard, found) = keep(&path, &new);
+            assert_eq!(heard, after, "{cut}");
+            let (cut_line, kept) = told(Some(&torn));
+            assert_eq!(
+                found,
+                cut_line.into_iter().chain(kept).collect::<Vec<_>>(),
+                "{cut}"
+            );
+            assert_eq!(look(&path), (after, vec![]), "{cut}");
+            let aside = if rest.is_empty() {
+                None
+            } else {
+                Some([rest, b"\n"].concat())
+            };
+            assert_eq!(fs::read(&torn).ok(), aside, "{cut}");
+        }
+    }
+
+    /// The byte at a place as damage may leave it.
+    fn altered(bytes: &[u8], at: usize) -> impl Iterator<Item = Vec<u8>> + '_ {
+        let to = [bytes[at] ^ 1, 0, b'\n'];
+        to.into_iter()
+            .filter(move |&byte| byte != bytes[at])
+            .map(move |byte| {
+                let mut damaged = bytes.to_vec();
+                damaged[at] = byte;
+                damaged
+            })
+    }
+
+    #[test]
+    fn every_byte_altered_is_told_and_nothing_is_heard_that_was_not_sent() {
+        let groups = groups_sent();
+        let sent = groups.concat();
+        let (bytes, ends) = written(&groups);
+        let folder = folder();
+        let path = folder.path().join("journal");
+        let mut tried = 0;
+        for at in 0..bytes.len() {
+            // the head's group is 0
+            let group = ends.iter().filter(|&&end| end <= at).count();
+            let text = &bytes[..ends[group]];
+            let sum = text.len()
+                - 1
+                - text[..text.len() - 1]
+                    .iter()
+                    .rev()
+                    .position(|&b| b == b'\n')
+                    .unwrap();
+            let without = |first: usize, last: usize| {
+                let stays = |n: &usize| *n < first || *n > last;
+                let groups = (1..=groups.len())
+                    .filter(stays)
+                    .map(|n| groups[n - 1].clone());
+                groups.collect::<Vec<_>>().concat()
+            };
+            for damaged in altered(&bytes, at) {
+                fs::write(&path, &damaged).unwrap();
+                let (heard, found) = look(&path);
+                assert_eq!(fs::read(&path).unwrap(), damaged);
+                assert!(!found.is_empty(), "{at}");
+                assert!(are_of(&heard, &sent), "{at}");
+                if at < sum - 1 {
+                    // in its lines: this group and no other is passed over
+                    assert_eq!(heard, without(group, group), "{at}");
+                    assert!(
+                        matches!(found[..], [Found::Damaged { .. }]),
+                        "{at}: {found:?}"
+                    );
+                } else {
+                    // in its sum, or the line's end before it: this group and the next at the most
+                    assert!(are_of(&without(group, group + 1), &heard), "{at}");
+                }
+                // and then it goes on
+                let new = [message(99, 16)];
+                let (again, _) = keep(&path, &new);
+                assert_eq!(again, [&heard[..], &new].concat(), "{at}");
+                assert_eq!(look(&path).0, again, "{at}");
+                tried += 1;
+            }
+        }
+        assert!(tried > 2 * bytes.len());
+    }
+
+    #[test]
+    fn damage_behind_the_last_sum_alters_one_line_that_was_never_acknowledged() {
+        let groups = groups_sent();
+        let sent = groups.concat();
+        let (bytes, ends) = written(&groups);
+        let (acknowledged, sum) = (sent.len() - 2, ends[ends.len() - 2]);
+        // the last group without its sum
+        let end = *line_ends(&bytes, &sent).last().unwrap();
+        let folder = folder();
+        let path = folder.path().join("journal");
+        for at in sum..end {
+            for damaged in altered(&bytes[..end], at) {
+                fs::write(&path, &damaged).unwrap();
+                let (heard, found) = look(&path);
+                assert_eq!(heard[..acknowledged], sent[..acknowledged], "{at}");
+                let others = heard[acknowledged..]
+                    .iter()
+                    .filter(|&one| !sent.contains(one))
+                    .count();
+                // one that is altered; or cut in two, of which the first may be a short message
+                assert!(others <= 1 && heard.len() <= sent.len(), "{at}: {heard:?}");
+                assert!(!found.is_empty(), "{at}");
+                let new = [message(99, 16)];
+                let (again, _) = keep(&path, &new);
+                assert_eq!(again, [&heard[..], &new].concat(), "{at}");
+                assert_eq!(look(&path), (again, vec![]), "{at}");
+            }
+        }
+    }
+
+    #[test]
+    fn lines_behind_the_last_sum_are_handed_on_once() {
+        let (bytes, ends) = written(&groups_sent());
+        let folder = folder();
+        let path = folder.path().join("journal");
+        let acknowledged = ends[ends.len() - 2];
+        fs::write(&path, &bytes[..acknowledged + WHOLE]).unwrap();
+        let sent = groups_sent().concat();
+        let mut journal = Journal::open(&path, Access::Write).unwrap();
+        let mut heard: Vec<Sent> = Vec::new();
+        for _ in 0..3 {
+            let mut each = |sent: &Sent| heard.push(sent.clone());
+            journal.look(&mut each, &Progress::silent()).unwrap();
+        }
+        assert_eq!(journal.take_found(), [Found::Adopted { count: 1 }]);
+        assert_eq!(heard[1..], sent[..12]);
+        // another one mends it
+        let one = [message(98, 16)];
+        keep(&path, &one);
+        let two = [message(99, 16)];
+        let mut each = |sent: &Sent| heard.push(sent.clone());
+        journal
+            .append(&two, &mut each, &Progress::silent())
+            .unwrap();
+        assert_eq!(heard[1..], [&sent[..12], &one, &two].concat());
+        assert_eq!((look(&path).1, journal.count()), (vec![], 14));
+    }
+
+    #[test]
+    fn what_could_not_be_mended_is_mended_by_the_next_one() {
+        let (bytes, ends) = written(&groups_sent());
+        let folder = folder();
+        let path = folder.path().join("journal");
+        let acknowledged = ends[ends.len() - 2];
+        fs::write(&path, &bytes[..acknowledged]).unwrap();
+        let mut journal = Journal::open(&path, Access::Write).unwrap();
+        let mut heard: Vec<Sent> = Vec::new();
+        let new = [message(99, 16)];
+        let mut append = |journal: &mut Journal| {
+            let mut each = |sent: &Sent| heard.push(sent.clone());
+            journal.append(&new, &mut each, &Progress::silent())
+        };
+        // a disk that takes nothing, as a file that is open for reading alone
+        fs::write(&path, &bytes[..acknowledged + WHOLE]).unwrap();
+        let file = std::mem::replace(&mut journal.file, File::open(&path).unwrap());
+        assert!(append(&mut journal)
+            .unwrap_err()
+            .0
+            .contains("cannot write to"));
+        journal.file = file;
+        append(&mut journal).unwrap();
+        let sent = [&groups_sent().concat()[..12], &new].concat();
+        assert_eq!(heard[1..], sent);
+        assert_eq!(look(&path), (sent, vec![]));
     }
 }

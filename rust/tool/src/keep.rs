@@ -240,7 +240,7 @@ fn hear(
             }
             so.out.flush().map_err(cannot_tell)?;
         }
-        drop(so);
+        drop(now);
         if got == 0 {
             return Ok(());
         }

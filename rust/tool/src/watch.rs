@@ -264,6 +264,8 @@ mod tests {
     use std::time::Instant;
     use zhitomrak::{BulbState, Counts, Message};
 
+    const STATION: &str = include_str!("../../../samples/station.toml");
+
     /// The messages of so many minutes, six each.
     fn messages(minutes: u32) -> Vec<u8> {
         let mut bytes = Vec::new();
@@ -288,8 +290,8 @@ mod tests {
     #[ignore = "it measures"]
     fn replay_beside_the_bare_file() {
         let folder = tempfile::tempdir().unwrap();
-        let sheet = Path::new(env!("CARGO_MANIFEST_DIR")).join("../../samples/station.toml");
-        let at = folder.path().join("watch");
+        let (sheet, at) = (folder.path().join("sheet"), folder.path().join("watch"));
+        fs::write(&sheet, STATION).unwrap();
         init(&at, &sheet).unwrap();
         let bytes = messages(333_334);
         let count = bytes.len() / 16;
@@ -323,5 +325,32 @@ mod tests {
             least[1] * 1e3,
             kept.as_secs_f64()
         );
+
+    #[test]
+    fn a_journal_whose_head_is_cut_is_told_in_words() {
+        let folder = tempfile::tempdir().unwrap();
+        let (sheet, watch) = (folder.path().join("sheet"), folder.path().join("watch"));
+        fs::write(&sheet, STATION).unwrap();
+        init(&watch, &sheet).unwrap();
+        let journal = watch.join(JOURNAL);
+        let head = fs::read(&journal).unwrap();
+        assert!(Watch::open(&watch, Access::Write).is_ok());
+        assert_eq!(fs::read(&journal).unwrap(), head);
+        for cut in 0..head.len() {
+            for access in [Access::Read, Access::Write] {
+                fs::write(&journal, &head[..cut]).unwrap();
+                let told = Watch::open(&watch, access).map(|_| ()).unwrap_err().0;
+                assert!(
+                    told.contains("does not begin with the settings"),
+                    "{cut}: {told}"
+                );
+                let left = if access == Access::Read {
+                    &head[..cut]
+                } else {
+                    &[]
+                };
+                assert_eq!(fs::read(&journal).unwrap(), left, "{cut}");
+            }
+        }
     }
 }
