@@ -325,6 +325,7 @@ mod tests {
             least[1] * 1e3,
             kept.as_secs_f64()
         );
+    }
 
     #[test]
     fn a_journal_whose_head_is_cut_is_told_in_words() {
