@@ -11,7 +11,7 @@ use zhitomrak::Refused;
 use crate::fault::{cannot, counted, fault, say, words, Fault, Result};
 use crate::hand::instrument;
 use crate::journal::Sent;
-use crate::progress::Progress;
+use crate::progress::{Coming, Progress};
 use crate::sheet::refusal;
 use crate::watch::{Outcome, Watch, JOURNAL};
 
@@ -44,14 +44,16 @@ impl Counts {
         format!("heard {}{refused}\n", self.0[0])
     }
 
-    /// As a person reads it.
-    fn in_words(&self) -> String {
+    /// `2454 messages: 1128 heard, 1326 refused`.
+    fn in_short(&self) -> String {
         let refused: u64 = self.refused().map(|(_, count)| count).sum();
-        let mut text = format!(
-            "{}: {} heard, {refused} refused\n",
-            counted(self.0[0] + refused, "message"),
-            self.0[0]
-        );
+        let all = counted(self.0[0] + refused, "message");
+        format!("{all}: {} heard, {refused} refused", self.0[0])
+    }
+
+    /// The same, with what each number refused.
+    fn in_words(&self) -> String {
+        let mut text = self.in_short() + "\n";
         for (number, count) in self.refused() {
             text += &format!(
                 "{count:>10} refused {number}: {}\n",
@@ -115,10 +117,10 @@ fn told(watch: &Watch, bytes: &[u8], came_to: &Outcome) -> String {
     }
 }
 
-/// Where messages come from, and how many bytes they are where that is known.
-fn source(watch: &Watch, path: &Path) -> Result<(Box<dyn Read>, u64)> {
+/// How many bytes there are to read, where that is known: of what comes as it comes, none.
+fn length(watch: &Watch, path: &Path) -> Result<Option<u64>> {
     if path.as_os_str() == "-" {
-        return Ok((Box::new(io::stdin()), 0));
+        return Ok(None);
     }
     let there = fs::metadata(path).map_err(cannot("read", path))?;
     if there.is_dir() {
@@ -135,11 +137,16 @@ fn source(watch: &Watch, path: &Path) -> Result<(Box<dyn Read>, u64)> {
             path.display()
         ));
     }
+    Ok(there.is_file().then_some(there.len()))
+}
+
+/// Where messages come from. A pipe is waited for until somebody writes to it.
+fn source(path: &Path) -> Result<Box<dyn Read>> {
+    if path.as_os_str() == "-" {
+        return Ok(Box::new(io::stdin()));
+    }
     let file = File::open(path).map_err(cannot("read", path))?;
-    Ok((
-        Box::new(file),
-        if there.is_file() { there.len() } else { 0 },
-    ))
+    Ok(Box::new(file))
 }
 
 /// What was kept so far.
@@ -147,6 +154,7 @@ struct So {
     counts: Counts,
     /// How many bytes of the next message have come.
     begun: usize,
+    coming: Coming,
     out: Box<dyn Write + Send>,
 }
 
@@ -162,6 +170,7 @@ fn tell(manner: Manner) -> io::Result<()> {
     let Some(mut so) = now().take() else {
         return Ok(());
     };
+    drop(so.coming);
     if so.begun > 0 {
         let begun = counted(so.begun, "byte");
         say!("of the last message only {begun} had come; that is not kept");
@@ -178,17 +187,22 @@ pub fn keep(
     manner: Manner,
     out: Box<dyn Write + Send>,
 ) -> Result<()> {
-    let (mut bytes, total) = source(watch, from)?;
+    let length = length(watch, from)?;
+    let what = match from.as_os_str() == "-" {
+        true => "keeps what comes; Ctrl-C ends".to_string(),
+        false => format!("keeps what comes from {}; Ctrl-C ends", from.display()),
+    };
     *now() = Some(So {
         counts: Counts::new(),
         begun: 0,
+        coming: Coming::new(what, length.is_none() && !manner.verbose && !manner.raw),
         out,
     });
     // at a prompt there is one already from the second time on, which does the same
     let _ =
         ctrlc::set_handler(move || std::process::exit(if tell(manner).is_ok() { 0 } else { 3 }));
-    let progress = Progress::new("hears the messages", total);
-    let done = hear(watch, &mut *bytes, from, manner, &progress);
+    let progress = Progress::new("hears the messages", length.unwrap_or(0));
+    let done = source(from).and_then(|mut bytes| hear(watch, &mut *bytes, from, manner, &progress));
     drop(progress);
     let told = tell(manner);
     done?;
@@ -239,6 +253,18 @@ fn hear(
                 }
             }
             so.out.flush().map_err(cannot_tell)?;
+            if let (Some(message), Some(came_to)) =
+                (bytes[..whole].chunks(16).last(), came_to.last())
+            {
+                let counts = &so.counts;
+                so.coming.last(|| {
+                    format!(
+                        "{}; the last: {}",
+                        counts.in_short(),
+                        told(watch, message, came_to)
+                    )
+                });
+            }
         }
         drop(now);
         if got == 0 {

@@ -1,4 +1,5 @@
-//! How far something long has come, on standard error: a bar in a terminal, elsewhere a line every few seconds.
+//! How far something long has come, on standard error: a bar in a terminal, elsewhere a line every few seconds; and of something
+//! that comes when it comes, in a terminal, what came last.
 
 use std::cell::Cell;
 use std::io::IsTerminal;
@@ -61,6 +62,38 @@ impl Drop for Progress {
     fn drop(&mut self) {
         if let Some(bar) = &self.bar {
             bar.finish_and_clear();
+        }
+    }
+}
+
+/// What came last of something that may never end, in a terminal's last line.
+pub struct Coming {
+    line: Option<ProgressBar>,
+}
+
+impl Coming {
+    /// Of what is said; nothing is shown where `shown` is not, or standard error is no terminal.
+    pub fn new(what: String, shown: bool) -> Coming {
+        let line = (shown && std::io::stderr().is_terminal()).then(|| {
+            let line = ProgressBar::new_spinner();
+            line.set_message(what);
+            line
+        });
+        Coming { line }
+    }
+
+    pub fn last(&self, what: impl FnOnce() -> String) {
+        if let Some(line) = &self.line {
+            line.set_message(what());
+            line.tick();
+        }
+    }
+}
+
+impl Drop for Coming {
+    fn drop(&mut self) {
+        if let Some(line) = &self.line {
+            line.finish_and_clear();
         }
     }
 }

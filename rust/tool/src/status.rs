@@ -4,6 +4,7 @@ use serde_json::{json, Value};
 use zhitomrak::Refused;
 
 use crate::answers::time;
+use crate::fault::counted;
 use crate::hand::{Instrument, INSTRUMENTS};
 use crate::minutes::Stretch;
 use crate::watch::Watch;
@@ -20,6 +21,8 @@ pub struct State {
     /// The first minute that could be kept.
     pub from: u32,
     pub present: usize,
+    /// How many minutes most readings are apart, where that is more than one.
+    pub apart: Option<u32>,
     /// Stretches without a reading from there to the newest.
     pub gaps: Vec<Stretch>,
 }
@@ -40,6 +43,23 @@ pub fn gaps(from: u32, there: impl IntoIterator<Item = bool>) -> Vec<Stretch> {
     gaps
 }
 
+/// How many minutes most readings are apart, each being there or not; none where that is one, or none are apart.
+fn apart(there: &[u8]) -> Option<u32> {
+    let minutes: Vec<usize> = (0..there.len())
+        .filter(|&minute| there[minute] != 0)
+        .collect();
+    let mut counts = [0; KEPT];
+    for pair in minutes.windows(2) {
+        counts[(pair[1] - pair[0]) % KEPT] += 1;
+    }
+    let (apart, &count) = counts
+        .iter()
+        .enumerate()
+        .rev()
+        .max_by_key(|&(_, count)| count)?;
+    (apart > 1 && 2 * count > minutes.len()).then_some(apart as u32)
+}
+
 /// What is there of an instrument; none where nothing was heard of it.
 pub fn state(watch: &Watch, instrument: &Instrument) -> Result<Option<State>, Refused> {
     let Some(newest) = watch.newest(instrument.channel) else {
@@ -51,11 +71,13 @@ pub fn state(watch: &Watch, instrument: &Instrument) -> Result<Option<State>, Re
         .store()
         .stretch(instrument.channel, from, &mut minutes)?;
     let present = minutes.iter().filter(|&&there| there != 0).count();
+    let apart = apart(&minutes);
     let gaps = gaps(from, minutes.iter().map(|&there| there != 0));
     Ok(Some(State {
         newest,
         from,
         present,
+        apart,
         gaps,
     }))
 }
@@ -70,6 +92,35 @@ fn last(watch: &Watch, instrument: &Instrument, newest: u32) -> String {
         Ok(reading) => reading.to_string(),
         Err(why) => why.to_string(),
     }
+}
+
+/// The gaps that are longer than those between readings so many minutes apart.
+fn longer(gaps: &[Stretch], apart: u32) -> Vec<Stretch> {
+    let is_longer = |gap: &&Stretch| gap.last - gap.first + 1 >= apart;
+    gaps.iter().filter(is_longer).copied().collect()
+}
+
+/// Gaps by their minutes, `826 to 900, 1003`: all of them, or the newest, and how many there are before.
+fn named(gaps: &[Stretch], all: bool) -> String {
+    let shown = if all {
+        gaps.len()
+    } else {
+        gaps.len().min(SHOWN)
+    };
+    let (before, shown) = gaps.split_at(gaps.len() - shown);
+    let mut words: Vec<String> = Vec::new();
+    if !before.is_empty() {
+        let count = counted(before.len(), "gap");
+        words.push(format!(
+            "{count} before, {} in all (--gaps)",
+            counted(total(before), "minute")
+        ));
+    }
+    words.extend(shown.iter().map(|gap| match gap.last - gap.first {
+        0 => gap.first.to_string(),
+        _ => format!("{} to {}", gap.first, gap.last),
+    }));
+    words.join(", ")
 }
 
 /// As a person reads it.
@@ -88,41 +139,22 @@ pub fn in_words(watch: &Watch, all_gaps: bool) -> Result<String, Refused> {
             last(watch, instrument, newest),
             clock.name(newest)
         );
+        let apart = state.apart.map_or(String::new(), |apart| {
+            format!(", most of them {apart} minutes apart")
+        });
         text += &format!(
-            "{:<24}{} of {} minutes kept, {} to {newest}\n",
+            "{:<24}{} of {} minutes kept, {} to {newest}{apart}\n",
             "",
             state.present,
             newest - state.from + 1,
             state.from
         );
-        let shown = if all_gaps {
-            state.gaps.len()
-        } else {
-            state.gaps.len().min(SHOWN)
+        let (what, gaps) = match state.apart {
+            Some(apart) if !all_gaps => ("longer gaps", longer(&state.gaps, apart)),
+            _ => ("no reading", state.gaps),
         };
-        let (more, shown) = state.gaps.split_at(state.gaps.len() - shown);
-        let mut words: Vec<String> = shown
-            .iter()
-            .map(|gap| {
-                if gap.first == gap.last {
-                    format!("{}", gap.first)
-                } else {
-                    format!("{} to {}", gap.first, gap.last)
-                }
-            })
-            .collect();
-        if !more.is_empty() {
-            words.insert(
-                0,
-                format!(
-                    "{} gaps before, {} minutes in all (--gaps)",
-                    more.len(),
-                    total(more)
-                ),
-            );
-        }
-        if !words.is_empty() {
-            text += &format!("{:<24}no reading: {}\n", "", words.join(", "));
+        if !gaps.is_empty() {
+            text += &format!("{:<24}{what}: {}\n", "", named(&gaps, all_gaps));
         }
     }
     Ok(text)
@@ -155,6 +187,23 @@ pub fn for_programs(watch: &Watch) -> Result<Value, Refused> {
 #[cfg(test)]
 mod tests {
     use super::*;
+
+    #[test]
+    fn readings_are_apart_by_what_most_of_them_are() {
+        let at = |minutes: &[usize]| {
+            let mut there = [0; KEPT];
+            minutes.iter().for_each(|&minute| there[minute] = 1);
+            apart(&there)
+        };
+        assert_eq!(at(&[0, 5, 10, 15, 17]), Some(5));
+        assert_eq!(at(&[0, 1, 2, 9]), None);
+        assert_eq!(at(&[0, 3, 10, 12]), None);
+        assert_eq!(at(&[7]), None);
+        assert_eq!(at(&[]), None);
+        let gaps = gaps(0, [true, false, false, true, false, false, false, true]);
+        assert_eq!(longer(&gaps, 3), [Stretch { first: 4, last: 6 }]);
+        assert_eq!(named(&gaps, true), "1 to 2, 4 to 6");
+    }
 
     #[test]
     fn gaps_are_the_stretches_between() {
