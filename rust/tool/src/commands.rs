@@ -69,12 +69,20 @@ fn on_watch(place: Place, name: &'static str, about: &'static str) -> Command {
 
 /// The questions, and what the numbers of their console's lines are.
 const SCALES: &str = "\
-pressure   hPa at sea level                 --raw: P MINUTE PRESSURE, tenths of hPa
-tendency   its change in three hours        --raw: T MINUTE CHANGE ABSENT, tenths of hPa; minutes between without a reading
-wind       the true wind, m/s and degrees   --raw: W MINUTE SPEED DIRECTION, tenths of m/s; 1 to 360, 0 in a calm
-humidity   by the psychrometer              --raw: H MINUTE E SATURATION DEFICIT RELATIVE DEW, hundredths of hPa; %; tenths of °C
+pressure   at sea level: hPa
+tendency   its change in three hours: hPa, and the minutes without a reading
+wind       the true wind: m/s, and the degrees that it comes from
+humidity   by the psychrometer: hPa, percent, and the dew point in °C
 
-A minute that is missing is refused, and never filled: refused 11, with the channel and the minute.";
+A minute that is missing is refused (11) with its channel, and never filled.
+
+--raw, in whole numbers:
+P MINUTE PRESSURE           tenths of hPa
+T MINUTE CHANGE ABSENT      tenths of hPa; minutes
+W MINUTE SPEED DIRECTION    tenths of m/s; degrees 1 to 360, 0 in a calm
+H MINUTE E SATURATION DEFICIT RELATIVE DEW
+                            hundredths of hPa three times; percent; tenths of °C
+refused NUMBER ..           and what `why NUMBER` says that it also returns";
 
 fn ask(place: Place) -> Command {
     on_watch(
@@ -131,7 +139,7 @@ fn dial(place: Place) -> Command {
         .arg(arg("FIRST", "The dial before, 0 to 9999"))
         .arg(arg("SECOND", "The dial after"))
         .arg(arg("SECONDS", "The seconds between them, 1 to 600"))
-        .after_help("dial 600 300 9940 80 60   at minute 600 from 300°, the dial from 9940 past 9999 to 80 in 60 seconds\n\nThe ship's course of that minute has to be there.")
+        .after_help("dial 600 300 9940 80 60   at minute 600 from 300°, 60 s from 9940 past 9999 to 80\n\nThe ship's course of that minute has to be there.")
 }
 
 fn log(place: Place) -> Command {
@@ -188,23 +196,32 @@ fn list() -> Command {
 
 fn plot(place: Place) -> Command {
     let subjects = PossibleValuesParser::new(SUBJECTS.map(|(name, _)| name));
-    on_watch(place, "plot", "Draws the barometer, the wind or humidity, here or as a picture; gaps are gaps, and named")
-        .arg(arg("SUBJECT", "What is drawn").value_parser(subjects))
-        .arg(Arg::new("WHEN").help("A stretch of minutes or times, as 400..1081. Without it what is kept, 256 minutes"))
-        .arg(
-            file("output", "The picture's file; without it the terminal")
-                .required(false)
-                .short('o')
-                .long("output")
-                .value_name("FILE.svg"),
-        )
-        .arg(flag("ascii", "In the terminal, with plain letters alone"))
-        .arg(replace())
-        .after_help(
-            "barometer   its readings, and an arrow with the tendency at each full hour and at the end, where one can be given\n\
+    on_watch(
+        place,
+        "plot",
+        "Draws the barometer, the wind or humidity, here or as a picture; gaps are gaps, and named",
+    )
+    .arg(arg("SUBJECT", "What is drawn").value_parser(subjects))
+    .arg(
+        Arg::new("WHEN").help(
+            "A stretch of minutes or times, as 400..1081. Without it what is kept, 256 minutes",
+        ),
+    )
+    .arg(
+        file("output", "The picture's file; without it the terminal")
+            .required(false)
+            .short('o')
+            .long("output")
+            .value_name("FILE.svg"),
+    )
+    .arg(flag("ascii", "In the terminal, with plain letters alone"))
+    .arg(replace())
+    .after_help(
+        "barometer   its readings; arrows with the tendency at full hours and at the\n\
+            \x20           end, where one can be given\n\
              wind        the true wind, and arrows the way it blows\n\
              humidity    relative humidity, dry bulb and dew point",
-        )
+    )
 }
 
 fn why() -> Command {
@@ -231,22 +248,33 @@ fn keep(place: Place) -> Command {
         Place::CommandLine => from.long("from"),
         Place::Prompt => from,
     };
-    on_watch(place, "keep", "Hears messages of 16 bytes, each written to the journal before it is heard")
-        .arg(from)
-        .arg(flag("verbose", "Tells each message when it is on the disk and heard").short('v'))
-        .arg(flag("raw", "The counts as one line, and nothing else"))
-        .arg(
-            Arg::new("at-a-time")
-                .long("at-a-time")
-                .value_name("N")
-                .default_value("4096")
-                .value_parser(clap::value_parser!(u16).range(1..=4096))
-                .help("How many messages are written at a time, where so many are there"),
+    on_watch(
+        place,
+        "keep",
+        "Hears messages of 16 bytes, each written to the journal before it is heard",
+    )
+    .arg(from)
+    .arg(
+        flag(
+            "verbose",
+            "Tells each message when it is on the disk and heard",
         )
-        .after_help(
-            "Bytes are cut into messages of 16 (docs/FORMAT.md). From a device it goes on until Ctrl-C; `stty -F DEVICE raw 9600` sets its line. Several may keep one watch:\n\
-             one from each device, and entries by hand besides.",
-        )
+        .short('v'),
+    )
+    .arg(flag("raw", "The counts as one line, and nothing else"))
+    .arg(
+        Arg::new("at-a-time")
+            .long("at-a-time")
+            .value_name("N")
+            .default_value("4096")
+            .value_parser(clap::value_parser!(u16).range(1..=4096))
+            .help("How many messages are written at a time, where so many are there"),
+    )
+    .after_help(
+        "Bytes are cut into messages of 16 (docs/FORMAT.md). From a device it goes on\n\
+             until Ctrl-C; `stty -F DEVICE raw 9600` sets its line. Several may keep one\n\
+             watch, each from its own device, and entries by hand come between.",
+    )
 }
 
 /// The commands of a place.
