@@ -334,7 +334,7 @@ impl Found {
                 format!("{name}: messages or entries are missing, or too many, before line {line}")
             }
             Found::Adopted { count } => format!(
-                "{name}: the last {count} written before the tool was stopped were not acknowledged yet; they are kept"
+                "{name}: the last {count} that came have no sum, as when the tool is stopped while it writes; they are kept"
             ),
             Found::Torn { bytes, aside } => {
                 let shown = String::from_utf8_lossy(&bytes[..bytes.len().min(50)]);
