@@ -4,7 +4,7 @@ use serde_json::{json, Value};
 use zhitomrak::watchfile::Body;
 use zhitomrak::{Channel, Kind, Refused, Speed, Store, Wind};
 
-use crate::minutes::Clock;
+use crate::minutes::{Clock, Stretch};
 use crate::sheet::refusal;
 
 /// What a question came to.
@@ -25,6 +25,9 @@ pub const QUESTIONS: [(&str, Kind); 4] = [
     ("wind", Kind::Wind),
     ("humidity", Kind::Humidity),
 ];
+
+/// The word for all of them.
+pub const ALL: &str = "all";
 
 pub fn question(name: &str) -> Option<Kind> {
     QUESTIONS
@@ -56,21 +59,57 @@ pub fn ask(store: &Store, kind: Kind, minute: u32) -> Answer {
     })
 }
 
+/// The minutes that a channel keeps, by its number.
+pub type Kept<'a> = &'a dyn Fn(u32) -> Option<Stretch>;
+
 /// The answer in the form that is wanted, a line.
-pub fn show(form: Form, clock: &Clock, kind: Kind, minute: u32, answer: &Answer) -> String {
-    match form {
-        Form::Words => format!("{}: {}", clock.name(minute), in_words(answer)),
-        Form::Raw => raw(minute, answer),
-        Form::Json => for_programs(clock, kind, minute, answer).to_string(),
+pub fn show(
+    form: Form,
+    clock: &Clock,
+    kept: Kept,
+    kind: Kind,
+    minute: u32,
+    answer: &Answer,
+) -> String {
+    match (form, answer) {
+        (Form::Words, Ok(body)) => format!("{}: {}", clock.name(minute), in_words(body)),
+        (Form::Words, Err(why)) => format!(
+            "{}: {}",
+            clock.name(minute),
+            refused_in_words(clock, kept, minute, *why)
+        ),
+        (Form::Raw, _) => raw(minute, answer),
+        (Form::Json, _) => for_programs(clock, kind, minute, answer).to_string(),
     }
 }
 
-/// The library's sentence; of a wind knots and Beaufort too, of a refusal its number.
-pub fn in_words(answer: &Answer) -> String {
-    match answer {
-        Ok(Body::Wind(wind)) => wind_in_words(wind),
-        Ok(body) => body.to_string(),
-        Err(why) => refusal(*why),
+/// The library's sentence; of a wind knots and Beaufort too.
+pub fn in_words(body: &Body) -> String {
+    match body {
+        Body::Wind(wind) => wind_in_words(wind),
+        body => body.to_string(),
+    }
+}
+
+/// A refusal's number and the library's sentence, and what helps to see it: the time of another minute than the one asked, what is kept where that minute is
+/// not kept any more, where the limits stand.
+pub fn refused_in_words(clock: &Clock, kept: Kept, asked: u32, why: Refused) -> String {
+    let mut notes = Vec::new();
+    if let Refused::MissingReading { minute, .. } | Refused::OutsideCertificate { minute } = why {
+        let other = clock.time(minute).filter(|_| minute != asked);
+        notes.extend(other.map(|_| clock.full(minute)));
+    }
+    match why {
+        Refused::MissingReading { channel, minute } => {
+            let gone = kept(channel).filter(|kept| minute < kept.first);
+            notes.extend(gone.map(|kept| format!("kept are {} to {}", kept.first, kept.last)));
+        }
+        Refused::OutsideLimits => notes.push("`why 7` tells them".into()),
+        _ => {}
+    }
+    match notes[..] {
+        [] => refusal(why),
+        _ => format!("{} ({})", refusal(why), notes.join("; ")),
     }
 }
 
@@ -259,26 +298,37 @@ mod tests {
     fn an_answer_has_three_forms() {
         let clock = Clock::new("2026-11-16T00:00:00Z".parse().ok());
         let answer: Answer = Ok(wind(84, 29).into());
-        let words = show(Form::Words, &clock, Kind::Wind, 1080, &answer);
+        let none = |_| None;
+        let words = show(Form::Words, &clock, &none, Kind::Wind, 1080, &answer);
         assert_eq!(words, "minute 1080 (2026-11-16 18:00 UTC): 8.4 m/s from 29° (16.3 knots, Beaufort 5, fresh breeze)");
         assert_eq!(
-            show(Form::Raw, &clock, Kind::Wind, 1080, &answer),
+            show(Form::Raw, &clock, &none, Kind::Wind, 1080, &answer),
             "W 1080 84 29"
         );
         let told: Value =
-            serde_json::from_str(&show(Form::Json, &clock, Kind::Wind, 1080, &answer)).unwrap();
+            serde_json::from_str(&show(Form::Json, &clock, &none, Kind::Wind, 1080, &answer))
+                .unwrap();
         assert_eq!(told["answer"]["speed_m_s"], json!(8.4));
         assert_eq!(told["answer"]["beaufort"], json!(5));
         assert_eq!(told["time"], json!("2026-11-16T18:00:00Z"));
-        assert_eq!(in_words(&Ok(wind(0, 0).into())), "calm");
+        assert_eq!(in_words(&wind(0, 0).into()), "calm");
         let refused: Answer = Err(Refused::MissingReading {
             channel: 0,
             minute: 820,
         });
-        assert_eq!(
-            in_words(&refused),
-            "refused 11: the barometer has no reading at minute 820"
-        );
+        let Err(why) = refused else {
+            panic!("it is refused")
+        };
+        let told = "refused 11: the barometer has no reading at minute 820";
+        assert_eq!(refused_in_words(&Clock::default(), &none, 1000, why), told);
+        let kept = |_| {
+            Some(Stretch {
+                first: 826,
+                last: 1081,
+            })
+        };
+        let told = format!("{told} (2026-11-16 13:40 UTC; kept are 826 to 1081)");
+        assert_eq!(refused_in_words(&clock, &kept, 1000, why), told);
         assert_eq!(raw(1000, &refused), "refused 11 0 820");
         let told = for_programs(&Clock::default(), Kind::Tendency, 1000, &refused);
         assert_eq!(

@@ -6,7 +6,7 @@ use std::path::PathBuf;
 use clap::builder::PossibleValuesParser;
 use clap::{Arg, ArgAction, Command};
 
-use crate::answers::QUESTIONS;
+use crate::answers::{ALL, QUESTIONS};
 use crate::hand::INSTRUMENTS;
 use crate::plot::SUBJECTS;
 
@@ -18,7 +18,7 @@ pub enum Place {
 }
 
 const WHEN: &str = "A minute, as 1081; a time, as 18:01 or 2026-11-16T18:01; or `now`. Times are UTC, and need an epoch in station.toml";
-const STRETCH: &str = "A minute, as 1081, a time, as 18:01 or 2026-11-16T18:01, or a stretch, as 900..1081. Without it the newest minute";
+const STRETCH: &str = "A minute, as 1081; a time, as 18:01 or 2026-11-16T18:01; `now`; or a stretch, as 900..1081. Without it the newest minute";
 
 const EXIT: &str = "Exit status: 0 done, 1 refused by one of the station's numbers (`zhitomrak why NUMBER`), 2 not understood, 3 could not be done.";
 
@@ -38,6 +38,15 @@ fn flag(name: &'static str, help: &'static str) -> Arg {
         .help(help)
 }
 
+/// Questions, and all of them.
+fn questions() -> Arg {
+    let names = QUESTIONS.map(|(name, _)| name).into_iter().chain([ALL]);
+    Arg::new("QUESTION")
+        .help("What is asked")
+        .default_value(ALL)
+        .value_parser(PossibleValuesParser::new(names))
+}
+
 fn question() -> Arg {
     arg("QUESTION", "What is asked")
         .value_parser(PossibleValuesParser::new(QUESTIONS.map(|(name, _)| name)))
@@ -52,6 +61,11 @@ fn forms() -> [Arg; 2] {
             "The console's line: whole numbers of the last place kept",
         ),
     ]
+}
+
+/// Of entries: a minute that is yet to come is likely a slip.
+fn ahead() -> Arg {
+    flag("ahead", "Enters a minute that is yet to come, too")
 }
 
 fn replace() -> Arg {
@@ -90,7 +104,7 @@ fn ask(place: Place) -> Command {
         "ask",
         "Asks for pressure, tendency, wind or humidity",
     )
-    .arg(question())
+    .arg(questions())
     .arg(Arg::new("WHEN").help(STRETCH))
     .args(forms())
     .after_help(SCALES)
@@ -121,14 +135,15 @@ fn reading(place: Place) -> Command {
             .help("Degrees for wind and motion; water, ice or unknown for the wet bulb")
             .allow_hyphen_values(true),
     )
+    .arg(ahead())
     .after_help(
-        "barometer    hPa, or mm Hg where station.toml says so   reading barometer 1081 1004.2\n\
-             wheelhouse   °C                                         reading wheelhouse 1081 18.5\n\
-             wind         apparent, m/s; degrees from the bow        reading wind 1080 8.4 29\n\
-             motion       knots; course in degrees                   reading motion 1080 12.5 260\n\
-             dry          °C                                         reading dry 1080 15.0\n\
-             wet          °C; water (if left out), ice or unknown    reading wet 1080 -3.2 ice\n\n\
-             A minute is kept once, and must be later than the instrument's newest.",
+        "barometer   hPa, or mm Hg by station.toml   reading barometer 1081 1004.2\n\
+         wheelhouse  °C                              reading wheelhouse 1081 18.5\n\
+         wind        apparent: m/s, ° from the bow   reading wind 1080 8.4 29\n\
+         motion      knots, ° of the course          reading motion 1080 12.5 260\n\
+         dry         °C                              reading dry 1080 15.0\n\
+         wet         °C, and water, ice or unknown   reading wet 1080 -3.2 ice\n\n\
+         A minute is kept once, and must be later than the instrument's newest.",
     )
 }
 
@@ -139,12 +154,13 @@ fn dial(place: Place) -> Command {
         .arg(arg("FIRST", "The dial before, 0 to 9999"))
         .arg(arg("SECOND", "The dial after"))
         .arg(arg("SECONDS", "The seconds between them, 1 to 600"))
+        .arg(ahead())
         .after_help("dial 600 300 9940 80 60   at minute 600 from 300°, 60 s from 9940 past 9999 to 80\n\nThe ship's course of that minute has to be there.")
 }
 
 fn log(place: Place) -> Command {
     on_watch(place, "log", "Asks, and keeps the answer in the watch's log")
-        .arg(question())
+        .arg(questions())
         .arg(Arg::new("WHEN").help(STRETCH))
         .arg(replace())
         .after_help("The log has sheets of 48 records, `log-1.watch` and on in the watch's folder; a full one begins the next.")
@@ -199,7 +215,7 @@ fn plot(place: Place) -> Command {
     on_watch(
         place,
         "plot",
-        "Draws the barometer, the wind or humidity, here or as a picture; gaps are gaps, and named",
+        "Draws barometer, pressure, wind or humidity, here or as a picture; gaps are named",
     )
     .arg(arg("SUBJECT", "What is drawn").value_parser(subjects))
     .arg(
@@ -219,6 +235,7 @@ fn plot(place: Place) -> Command {
     .after_help(
         "barometer   its readings; arrows with the tendency at full hours and at the\n\
             \x20           end, where one can be given\n\
+             pressure    the same at sea level\n\
              wind        the true wind, and arrows the way it blows\n\
              humidity    relative humidity, dry bulb and dew point",
     )
@@ -237,6 +254,19 @@ fn settings(place: Place) -> Command {
         "Shows the settings that the watch was begun with, as a station.toml",
     )
 }
+
+/// What a station.toml says.
+const KEYS: &str = "\
+`zhitomrak example >station.toml` writes one to begin with. It says:
+epoch                            when minute 0 was: 2026-11-16T00:00:00Z
+barometer_unit                   \"hPa\" or \"mmHg\"
+height_m                         of the barometer, 0.0 to 60.0
+sea_level_difference_m           -30.0 to 30.0; 0.0 if left out
+temperature_coefficient_per_C    -0.050 to 0.050 of the barometer's unit
+psychrometer_coefficient_per_C   0.000500 to 0.001000; 0.000662 if left out
+certificate                      [[reading, what is added to it], ..]
+anemometer_certificate           [[divisions a second, m/s], ..]; or left out
+`zhitomrak why 10` and `why 25` tell the rules of the certificates.";
 
 fn keep(place: Place) -> Command {
     let from = file(
@@ -296,7 +326,12 @@ pub fn all(place: Place) -> Command {
                         file("settings", "The station.toml to begin with")
                             .long("settings")
                             .value_name("FILE"),
-                    ),
+                    )
+                    .after_help(KEYS),
+            )
+            .subcommand(
+                Command::new("example")
+                    .about("Writes a station.toml to begin with: zhitomrak example >station.toml"),
             )
             .after_help(EXIT);
     } else {

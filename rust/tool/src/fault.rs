@@ -4,9 +4,14 @@ use std::fmt;
 use std::io;
 use std::path::Path;
 
-/// What went wrong, in words. Nothing was changed, unless the words say so.
+/// What went wrong, in words, and the status to end with. Nothing was changed, unless the words say so.
 #[derive(Debug)]
-pub struct Fault(pub String);
+pub struct Fault(pub String, pub u8);
+
+/// The statuses to end with, but for 0.
+pub const REFUSED: u8 = 1;
+pub const NOT_UNDERSTOOD: u8 = 2;
+pub const NOT_DONE: u8 = 3;
 
 pub type Result<T> = std::result::Result<T, Fault>;
 
@@ -18,9 +23,15 @@ impl fmt::Display for Fault {
 
 /// A fault by its words: `fault!("there is no folder {}", path.display())`.
 macro_rules! fault {
-    ($($words:tt)*) => { $crate::fault::Fault(format!($($words)*)) };
+    ($($words:tt)*) => { $crate::fault::Fault(format!($($words)*), $crate::fault::NOT_DONE) };
 }
 pub(crate) use fault;
+
+/// The same of something that was not understood.
+macro_rules! unclear {
+    ($($words:tt)*) => { $crate::fault::Fault(format!($($words)*), $crate::fault::NOT_UNDERSTOOD) };
+}
+pub(crate) use unclear;
 
 /// A line on standard error. Where it cannot be written, as on a full disk, the work goes on without it.
 macro_rules! say {

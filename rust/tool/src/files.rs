@@ -147,6 +147,20 @@ fn is_there(path: &Path) -> Fault {
     )
 }
 
+/// Takes away what [`beside`] left, where one was killed, of files whose names begin so. Where that cannot be it stays, and is no harm.
+pub fn clear_away(folder: &Path, begin: &str) {
+    let Ok(files) = fs::read_dir(folder) else {
+        return;
+    };
+    for file in files.flatten() {
+        let name = file.file_name();
+        let name = name.to_string_lossy();
+        if name.starts_with(&format!(".{begin}")) && name.ends_with(".part") {
+            let _ = fs::remove_file(file.path());
+        }
+    }
+}
+
 /// A new file beside the one that is to be saved, which goes away unless it gets its name.
 fn beside(parent: &Path, name: &OsStr) -> io::Result<(File, TempPath)> {
     for n in 0.. {

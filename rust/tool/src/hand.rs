@@ -2,7 +2,7 @@
 
 use zhitomrak::{BulbState, Channel, Message};
 
-use crate::fault::{fault, Result};
+use crate::fault::{unclear, Result};
 
 /// An instrument as a person names it.
 pub struct Instrument {
@@ -51,6 +51,11 @@ pub fn instrument(number: u32) -> Option<&'static Instrument> {
     INSTRUMENTS.get(number as usize)
 }
 
+/// The name of a channel's instrument in a table.
+pub fn title(channel: Channel) -> &'static str {
+    INSTRUMENTS[channel.number() as usize].title
+}
+
 /// A value as an instrument sends it.
 fn value(text: &str) -> Result<f32> {
     let plain = !text.is_empty()
@@ -58,7 +63,9 @@ fn value(text: &str) -> Result<f32> {
             .bytes()
             .all(|b| b.is_ascii_digit() || b"+-.".contains(&b));
     let number = text.parse::<f32>().ok().filter(|_| plain);
-    number.ok_or_else(|| fault!("`{text}` is no number, as 1004.2 is"))
+    number.ok_or_else(|| {
+        unclear!("`{text}` is no number: it is to be written with digits and a point, as 1004.2")
+    })
 }
 
 /// The message that an instrument would have sent.
@@ -71,18 +78,18 @@ pub fn message(
     let instrument = INSTRUMENTS
         .iter()
         .find(|known| known.name == name)
-        .ok_or_else(|| fault!("`{name}` is no instrument"))?;
+        .ok_or_else(|| unclear!("`{name}` is no instrument"))?;
     let shows = value(first)?;
     let degrees = || match second {
         Some(text) => value(text),
-        None => Err(fault!("{name}: the degrees are missing behind {first}")),
+        None => Err(unclear!("{name}: the degrees are missing behind {first}")),
     };
     let message = match instrument.channel {
         Channel::ApparentWind => Message::apparent_wind(minute, shows, degrees()?),
         Channel::ShipMotion => Message::ship_motion(minute, shows, degrees()?),
         Channel::WetBulb => Message::wet_bulb(minute, shows, state(second)?),
         _ if second.is_some() => {
-            return Err(fault!("{name}: there is a word too many behind {first}"))
+            return Err(unclear!("{name}: there is a word too many behind {first}"))
         }
         Channel::Barometer => Message::barometer(minute, shows),
         Channel::Wheelhouse => Message::wheelhouse(minute, shows),
@@ -97,7 +104,7 @@ fn state(word: Option<&str>) -> Result<BulbState> {
         None | Some("water") => Ok(BulbState::Water),
         Some("ice") => Ok(BulbState::Ice),
         Some("unknown") => Ok(BulbState::Unknown),
-        Some(other) => Err(fault!("`{other}` is neither water, ice nor unknown")),
+        Some(other) => Err(unclear!("`{other}` is neither water, ice nor unknown")),
     }
 }
 

@@ -11,10 +11,12 @@
 use std::fmt::Write as _;
 use std::fs::{File, OpenOptions, TryLockError};
 use std::io::{self, Read, Seek, SeekFrom, Write};
+use std::os::unix::fs::MetadataExt;
 use std::path::{Path, PathBuf};
 use std::thread::sleep;
 use std::time::{Duration, Instant};
 
+use chrono::{DateTime, Utc};
 use zhitomrak::{
     AnemometerCertificate, AnemometerPoint, Certificate, Entry, Point, Refused, Settings, Store,
     Unit,
@@ -48,14 +50,18 @@ pub enum Sent {
 impl Sent {
     /// The messages that bytes are, cut at 16; the last may be short.
     pub fn messages(bytes: &[u8]) -> impl Iterator<Item = Sent> + '_ {
-        bytes.chunks(16).map(|piece| {
-            let mut bytes = [0; 16];
-            bytes[..piece.len()].copy_from_slice(piece);
-            Sent::Message {
-                bytes,
-                length: piece.len(),
-            }
-        })
+        bytes.chunks(16).map(Sent::message)
+    }
+
+    /// The message that bytes are; of more than 16 the first.
+    pub fn message(bytes: &[u8]) -> Sent {
+        let length = bytes.len().min(16);
+        let mut message = [0; 16];
+        message[..length].copy_from_slice(&bytes[..length]);
+        Sent::Message {
+            bytes: message,
+            length,
+        }
     }
 
     /// Sends it to a store. (An opening does nothing to one that is open.)
@@ -300,11 +306,50 @@ fn groups(head: &str, sent: &[Sent], mut count: u64) -> String {
     text
 }
 
-/// The first lines of a journal: what it is, and the settings.
-pub fn head(settings: &Settings) -> String {
+/// The remark that says when minute 0 was.
+const EPOCH: &str = "# epoch ";
+
+/// The first lines of a journal: what it is, when minute 0 was, and the settings.
+pub fn head(settings: &Settings, epoch: Option<DateTime<Utc>>) -> String {
     let opening = Sent::Opening(Box::new(*settings));
-    groups(&format!("{HEAD}\n"), &[opening], 0)
+    let epoch = epoch.map_or(String::new(), |epoch| {
+        format!("{EPOCH}{}\n", epoch.format("%Y-%m-%dT%H:%M:%SZ"))
+    });
+    groups(&format!("{HEAD}\n{epoch}"), &[opening], 0)
 }
+
+/// A journal's first lines.
+fn first_lines(path: &Path) -> Vec<String> {
+    let bytes = files::read(path, 200).unwrap_or_default();
+    let text = String::from_utf8_lossy(&bytes);
+    text.lines().take(2).map(str::to_string).collect()
+}
+
+/// When minute 0 was, where a journal's first lines say so.
+pub fn epoch(path: &Path) -> Option<DateTime<Utc>> {
+    let lines = first_lines(path);
+    let said = lines.iter().find_map(|line| line.strip_prefix(EPOCH));
+    said?.parse().ok()
+}
+
+/// Refuses a journal of another form, which a later tool would write.
+pub fn is_of_this_form(path: &Path) -> Result<()> {
+    let lines = first_lines(path);
+    let parts = |line: &'static str| line.rsplit_once(' ').unwrap_or_default();
+    let (what, this) = parts(HEAD);
+    match lines.first().and_then(|line| line.rsplit_once(' ')) {
+        Some((known, form)) if known == what && form.parse::<u32>().is_ok() && form != this => {
+            Err(fault!(
+                "{} is of form {form}, and this tool knows form {this}",
+                path.display()
+            ))
+        }
+        _ => Ok(()),
+    }
+}
+
+/// The remark before what a person has entered.
+pub const BY_HAND: &str = "# by hand\n";
 
 /// What the next start says of a journal, where there is something to say.
 #[derive(Clone, Debug, PartialEq)]
@@ -344,7 +389,7 @@ impl Found {
                 let what = if bytes.contains(&b'\n') {
                     format!("{name}: its end is damaged, {length} from `{shown}` on; what they said is not heard")
                 } else {
-                    format!("{name}: it ends in a line that was cut, {length}, `{shown}`; it was never acknowledged, and is not heard")
+                    format!("{name}: it ends in a line that was cut, {length}, `{shown}`, which is not heard; what may have followed is not here")
                 };
                 match aside {
                     Some(path) => format!("{what}; it is set aside in {}", path.display()),
@@ -352,6 +397,14 @@ impl Found {
                 }
             }
         }
+    }
+}
+
+/// `the last 2 messages or entries are not kept`.
+fn not_kept(count: usize) -> String {
+    match count {
+        1 => "the last message or entry is not kept".into(),
+        _ => format!("the last {count} messages or entries are not kept"),
     }
 }
 
@@ -497,14 +550,19 @@ impl Journal {
         // behind the last sum: the whole lines that are sound, and what follows them
         let rest = &bytes[used..];
         let mut tail = Tail::default();
-        while let Some(end) = rest[tail.length..].iter().position(|&byte| byte == b'\n') {
-            let line = &rest[tail.length..tail.length + end];
+        let (mut at, mut lines) = (0, 0);
+        while let Some(end) = rest[at..].iter().position(|&byte| byte == b'\n') {
+            let line = &rest[at..at + end];
+            at += end + 1;
+            lines += 1;
             match Sent::of(line) {
-                Some(Sent::Opening(_)) | None => break,
+                Some(Sent::Opening(_)) => break,
                 Some(sent) => tail.whole.push(sent),
+                // a remark belongs to what follows it
+                None if line.starts_with(b"# ") => continue,
+                None => break,
             }
-            tail.length += end + 1;
-            tail.lines += 1;
+            (tail.length, tail.lines) = (at, lines);
         }
         tail.sum = crc32fast::hash(&rest[..tail.length]);
         tail.rest = rest[tail.length..].to_vec();
@@ -573,18 +631,20 @@ impl Journal {
     /// they handed on. Where they cannot be written the journal is as it was.
     pub fn append(
         &mut self,
+        remark: &str,
         sent: &[Sent],
         each: &mut dyn FnMut(&Sent),
         progress: &Progress,
     ) -> Result<()> {
         self.lock(true, None)?;
-        let done = self.append_locked(sent, each, progress);
+        let done = self.append_locked(remark, sent, each, progress);
         self.unlock();
         done
     }
 
     fn append_locked(
         &mut self,
+        remark: &str,
         sent: &[Sent],
         each: &mut dyn FnMut(&Sent),
         progress: &Progress,
@@ -592,8 +652,18 @@ impl Journal {
         let tail = self.groups(each, progress)?;
         self.mend(tail, each)?;
         if !sent.is_empty() {
-            let text = groups("", sent, self.count);
-            self.write(text.as_bytes())?;
+            if self
+                .file
+                .metadata()
+                .map_err(cannot("write to", &self.path))?
+                .nlink()
+                == 0
+            {
+                let count = not_kept(sent.len());
+                return Err(fault!("{} was taken away; {count}", self.path.display()));
+            }
+            let text = groups(remark, sent, self.count);
+            self.write(text.as_bytes(), sent.len())?;
             self.count += sent.len() as u64;
             sent.iter().for_each(each);
         }
@@ -601,14 +671,14 @@ impl Journal {
     }
 
     /// Writes bytes at the place, where the file ends, and onto the disk; or the file ends there, as before.
-    fn write(&mut self, bytes: &[u8]) -> Result<()> {
+    fn write(&mut self, bytes: &[u8], count: usize) -> Result<()> {
         let written = (&self.file)
             .write_all(bytes)
             .and_then(|()| self.file.sync_data());
         if let Err(error) = written {
             let back = match self.file.set_len(self.place) {
-                Ok(()) => "what came last is not kept",
-                Err(_) => "what came last may be kept in part, which the next start mends",
+                Ok(()) => not_kept(count),
+                Err(_) => "what came last may be kept in part, which the next start mends".into(),
             };
             return Err(fault!(
                 "cannot write to {}: {}; {back}",
@@ -648,7 +718,10 @@ impl Journal {
             let before = (self.place, self.line);
             self.place += tail.length as u64;
             self.line += tail.lines;
-            let written = self.write(format!("#= {:08x} {count}\n", tail.sum).as_bytes());
+            let written = self.write(
+                format!("#= {:08x} {count}\n", tail.sum).as_bytes(),
+                tail.whole.len(),
+            );
             if written.is_err() {
                 // they have no sum yet, and are read again
                 (self.place, self.line) = before;
@@ -721,7 +794,7 @@ mod tests {
     fn written(groups: &[Vec<Sent>]) -> (Vec<u8>, Vec<usize>) {
         let folder = folder();
         let path = folder.path().join("journal");
-        fs::write(&path, head(&settings())).unwrap();
+        fs::write(&path, head(&settings(), None)).unwrap();
         let mut ends = vec![fs::read(&path).unwrap().len()];
         for group in groups {
             keep(&path, group);
@@ -740,7 +813,7 @@ mod tests {
         };
         match access {
             Access::Read => journal.look(&mut each, &Progress::silent()),
-            Access::Write => journal.append(sent, &mut each, &Progress::silent()),
+            Access::Write => journal.append("", sent, &mut each, &Progress::silent()),
         }
         .unwrap();
         let found = journal.take_found();
@@ -990,7 +1063,7 @@ mod tests {
         let two = [message(99, 16)];
         let mut each = |sent: &Sent| heard.push(sent.clone());
         journal
-            .append(&two, &mut each, &Progress::silent())
+            .append("", &two, &mut each, &Progress::silent())
             .unwrap();
         assert_eq!(heard[1..], [&sent[..12], &one, &two].concat());
         assert_eq!((look(&path).1, journal.count()), (vec![], 14));
@@ -1008,7 +1081,7 @@ mod tests {
         let new = [message(99, 16)];
         let mut append = |journal: &mut Journal| {
             let mut each = |sent: &Sent| heard.push(sent.clone());
-            journal.append(&new, &mut each, &Progress::silent())
+            journal.append("", &new, &mut each, &Progress::silent())
         };
         // a disk that takes nothing, as a file that is open for reading alone
         fs::write(&path, &bytes[..acknowledged + WHOLE]).unwrap();

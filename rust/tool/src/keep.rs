@@ -1,14 +1,21 @@
 //! Keeping a watch: messages come in from a file or a device, are written to the journal, and are heard.
 
-use std::fs::{self, File};
-use std::io::{self, Read, Write};
-use std::os::unix::fs::MetadataExt;
+use std::fs::{self, OpenOptions};
+use std::io::{self, IsTerminal, Read, Write};
+use std::os::fd::{AsRawFd, RawFd};
+use std::os::unix::fs::{MetadataExt, OpenOptionsExt};
 use std::path::Path;
-use std::sync::{Mutex, MutexGuard};
+use std::time::{Duration, Instant};
 
+use nix::errno::Errno;
+use nix::fcntl::OFlag;
+use nix::poll::{poll, PollFd, PollFlags};
+use nix::sys::termios::{tcgetattr, LocalFlags, Termios};
 use zhitomrak::Refused;
 
-use crate::fault::{cannot, counted, fault, say, words, Fault, Result};
+use crate::ended::{ended, in_order};
+use crate::fault::{cannot, counted, fault, say, words, Fault, Result, NOT_DONE};
+use crate::frames::{Cut, Frames};
 use crate::hand::instrument;
 use crate::journal::Sent;
 use crate::progress::{Coming, Progress};
@@ -44,11 +51,27 @@ impl Counts {
         format!("heard {}{refused}\n", self.0[0])
     }
 
+    fn heard(&self) -> u64 {
+        self.0[0]
+    }
+
+    fn all(&self) -> u64 {
+        self.0.iter().sum()
+    }
+
+    /// How many were messages, heard or not: those that are none are refused by 1 to 7.
+    fn of_messages(&self) -> u64 {
+        self.all() - self.0[1..8].iter().sum::<u64>()
+    }
+
     /// `2454 messages: 1128 heard, 1326 refused`.
     fn in_short(&self) -> String {
-        let refused: u64 = self.refused().map(|(_, count)| count).sum();
-        let all = counted(self.0[0] + refused, "message");
-        format!("{all}: {} heard, {refused} refused", self.0[0])
+        let all = counted(self.all(), "message");
+        format!(
+            "{all}: {} heard, {} refused",
+            self.heard(),
+            self.all() - self.heard()
+        )
     }
 
     /// The same, with what each number refused.
@@ -117,162 +140,254 @@ fn told(watch: &Watch, bytes: &[u8], came_to: &Outcome) -> String {
     }
 }
 
-/// How many bytes there are to read, where that is known: of what comes as it comes, none.
-fn length(watch: &Watch, path: &Path) -> Result<Option<u64>> {
-    if path.as_os_str() == "-" {
-        return Ok(None);
-    }
-    let there = fs::metadata(path).map_err(cannot("read", path))?;
-    if there.is_dir() {
-        return Err(fault!(
-            "cannot read {}: it is a folder; messages come from a file or a device",
-            path.display()
-        ));
-    }
-    let itself =
-        |journal: fs::Metadata| (journal.dev(), journal.ino()) == (there.dev(), there.ino());
-    if fs::metadata(watch.folder().join(JOURNAL)).is_ok_and(itself) {
-        return Err(fault!(
-            "cannot read {}: it is the journal that is written to",
-            path.display()
-        ));
-    }
-    Ok(there.is_file().then_some(there.len()))
+/// Where messages come from.
+struct Source {
+    file: Box<dyn Read>,
+    fd: RawFd,
+    /// How many bytes a file has; none of what comes as it comes.
+    length: Option<u64>,
 }
 
-/// Where messages come from. A pipe is waited for until somebody writes to it.
-fn source(path: &Path) -> Result<Box<dyn Read>> {
-    if path.as_os_str() == "-" {
-        return Ok(Box::new(io::stdin()));
+/// How long nothing comes after a message has begun, until the rest of it is no longer waited for.
+const PAUSE: Duration = Duration::from_secs(2);
+
+/// How often an end is asked for meanwhile.
+const TICK: Duration = Duration::from_millis(100);
+
+/// After so many bytes without a message that is told.
+const NOTHING: usize = 1024;
+
+impl Source {
+    fn open(watch: &Watch, path: &Path) -> Result<Source> {
+        if path.as_os_str() == "-" {
+            let stdin = io::stdin();
+            let fd = stdin.as_raw_fd();
+            raw(
+                fd,
+                stdin.is_terminal(),
+                "standard input",
+                "a file or a device",
+            )?;
+            return Ok(Source {
+                file: Box::new(stdin),
+                fd,
+                length: None,
+            });
+        }
+        let there = fs::metadata(path).map_err(cannot("read", path))?;
+        let name = path.display();
+        if there.is_dir() {
+            return Err(fault!(
+                "cannot read {name}: it is a folder; messages come from a file or a device"
+            ));
+        }
+        let itself =
+            |journal: fs::Metadata| (journal.dev(), journal.ino()) == (there.dev(), there.ino());
+        if fs::metadata(watch.folder().join(JOURNAL)).is_ok_and(itself) {
+            return Err(fault!(
+                "cannot read {name}: it is the journal that is written to"
+            ));
+        }
+        // a pipe that nobody writes to yet, or a line without a carrier, is waited for below
+        let mut how = OpenOptions::new();
+        let file = how
+            .read(true)
+            .custom_flags(OFlag::O_NONBLOCK.bits())
+            .open(path)
+            .map_err(cannot("read", path))?;
+        let fd = file.as_raw_fd();
+        raw(
+            fd,
+            file.is_terminal(),
+            &name.to_string(),
+            &format!("`stty -F {name} raw 9600`"),
+        )?;
+        let length = there.is_file().then_some(there.len());
+        Ok(Source {
+            file: Box::new(file),
+            fd,
+            length,
+        })
     }
-    let file = File::open(path).map_err(cannot("read", path))?;
-    Ok(Box::new(file))
+
+    /// Whether something has come within a pause, or the end; not so where it is to end.
+    fn comes(&self, within: Duration) -> Result<bool> {
+        let began = Instant::now();
+        loop {
+            let mut fds = [PollFd::new(self.fd, PollFlags::POLLIN)];
+            match poll(&mut fds, TICK.as_millis() as i32) {
+                Ok(0) | Err(Errno::EINTR) => {}
+                Ok(_) => return Ok(true),
+                Err(error) => {
+                    return Err(fault!(
+                        "cannot wait for what comes: {}",
+                        words(&error.into())
+                    ))
+                }
+            }
+            if ended() || began.elapsed() > within {
+                return Ok(false);
+            }
+        }
+    }
+}
+
+/// A terminal's line has to hand on bytes as they are, and at once.
+fn raw(fd: RawFd, terminal: bool, name: &str, instead: &str) -> Result<()> {
+    let cooked = |line: Termios| line.local_flags.contains(LocalFlags::ICANON);
+    if terminal && tcgetattr(fd).is_ok_and(cooked) {
+        return Err(fault!(
+            "{name} is a terminal whose line changes what comes: first {instead}"
+        ));
+    }
+    Ok(())
 }
 
 /// What was kept so far.
 struct So {
     counts: Counts,
-    /// How many bytes of the next message have come.
-    begun: usize,
     coming: Coming,
-    out: Box<dyn Write + Send>,
+    out: Box<dyn Write>,
+    /// The newest minute of all, before.
+    newest: Option<u32>,
 }
 
-/// What is being kept now. Who has the lock sees nothing half written.
-static NOW: Mutex<Option<So>> = Mutex::new(None);
-
-fn now() -> MutexGuard<'static, Option<So>> {
-    NOW.lock().unwrap_or_else(|poisoned| poisoned.into_inner())
-}
-
-/// Tells the counts, where something was being kept, and a message that had half come.
-fn tell(manner: Manner) -> io::Result<()> {
-    let Some(mut so) = now().take() else {
-        return Ok(());
-    };
-    drop(so.coming);
-    if so.begun > 0 {
-        let begun = counted(so.begun, "byte");
-        say!("of the last message only {begun} had come; that is not kept");
-    }
-    so.out.write_all(manner.told(&so.counts).as_bytes())?;
-    so.out.flush()
-}
-
-/// Hears everything that comes, up to its end; or until Ctrl-C, or until it is told to end, between two messages. The counts are told
-/// in any case.
-pub fn keep(
-    watch: &mut Watch,
-    from: &Path,
-    manner: Manner,
-    out: Box<dyn Write + Send>,
-) -> Result<()> {
-    let length = length(watch, from)?;
+/// Hears everything that comes, up to its end, or until it is told to end. The counts are told then; whether anything was heard,
+/// where anything came.
+pub fn keep(watch: &mut Watch, from: &Path, manner: Manner, out: Box<dyn Write>) -> Result<bool> {
+    in_order();
+    let mut source = Source::open(watch, from)?;
     let what = match from.as_os_str() == "-" {
         true => "keeps what comes; Ctrl-C ends".to_string(),
         false => format!("keeps what comes from {}; Ctrl-C ends", from.display()),
     };
-    *now() = Some(So {
+    let live = source.length.is_none();
+    let mut so = So {
         counts: Counts::new(),
-        begun: 0,
-        coming: Coming::new(what, length.is_none() && !manner.verbose && !manner.raw),
+        coming: Coming::new(what, live && !manner.verbose && !manner.raw),
         out,
-    });
-    // at a prompt there is one already from the second time on, which does the same
-    let _ =
-        ctrlc::set_handler(move || std::process::exit(if tell(manner).is_ok() { 0 } else { 3 }));
-    let progress = Progress::new("hears the messages", length.unwrap_or(0));
-    let done = source(from).and_then(|mut bytes| hear(watch, &mut *bytes, from, manner, &progress));
+        newest: watch.newest_of_all(),
+    };
+    let progress = Progress::new("hears the messages", source.length.unwrap_or(0));
+    let done = hear(watch, &mut source, from, manner, &mut so, &progress);
     drop(progress);
-    let told = tell(manner);
+    drop(so.coming);
+    let mut told = Ok(());
+    if done.is_ok() || so.counts.all() > 0 {
+        let text = manner.told(&so.counts);
+        told = so
+            .out
+            .write_all(text.as_bytes())
+            .and_then(|()| so.out.flush());
+    }
     done?;
-    told.map_err(cannot_tell)
+    told.map_err(cannot_tell)?;
+    Ok(so.counts.heard() > 0 || so.counts.all() == 0)
 }
 
 /// Why an answer could not be given.
 pub fn cannot_tell(error: io::Error) -> Fault {
     if error.kind() == io::ErrorKind::BrokenPipe {
-        return Fault(String::new());
+        return Fault(String::new(), NOT_DONE);
     }
     fault!("cannot write the answer: {}", words(&error))
 }
 
 fn hear(
     watch: &mut Watch,
-    from: &mut dyn Read,
+    source: &mut Source,
     name: &Path,
     manner: Manner,
+    so: &mut So,
     progress: &Progress,
 ) -> Result<()> {
+    let settings = watch.store().settings().map_err(|why| fault!("{why}"))?;
+    let mut frames = Frames::new(&settings);
     let mut bytes = vec![0; manner.at_a_time * 16];
-    let mut filled = 0;
-    let mut done = 0;
-    loop {
-        let got = match from.read(&mut bytes[filled..]) {
-            Err(error) if error.kind() == io::ErrorKind::Interrupted => continue,
+    let (mut done, mut asked) = (0, false);
+    while !ended() {
+        if source.length.is_none() && !source.comes(PAUSE)? {
+            // what was begun, and does not go on
+            if !ended() {
+                write(watch, frames.take(true), manner, so)?;
+            }
+            continue;
+        }
+        let got = match source.file.read(&mut bytes) {
+            Err(error)
+                if [io::ErrorKind::Interrupted, io::ErrorKind::WouldBlock]
+                    .contains(&error.kind()) =>
+            {
+                continue
+            }
             got => got.map_err(cannot("read", name))?,
         };
-        filled += got;
-        // at the end what is too short for a message is one all the same, and is refused
-        let whole = if got == 0 {
-            filled
-        } else {
-            filled - filled % 16
-        };
-        let sent: Vec<Sent> = Sent::messages(&bytes[..whole]).collect();
-        // who ends it now has to wait until this is kept and told
-        let mut now = now();
-        let Some(so) = &mut *now else { return Ok(()) };
-        so.begun = filled - whole;
-        if !sent.is_empty() {
-            let came_to = watch.keep(&sent)?;
-            for (message, came_to) in bytes[..whole].chunks(16).zip(&came_to) {
-                so.counts.add(came_to);
-                if manner.verbose {
-                    writeln!(so.out, "{}", told(watch, message, came_to)).map_err(cannot_tell)?;
-                }
-            }
-            so.out.flush().map_err(cannot_tell)?;
-            if let (Some(message), Some(came_to)) =
-                (bytes[..whole].chunks(16).last(), came_to.last())
-            {
-                let counts = &so.counts;
-                so.coming.last(|| {
-                    format!(
-                        "{}; the last: {}",
-                        counts.in_short(),
-                        told(watch, message, came_to)
-                    )
-                });
+        frames.push(&bytes[..got]);
+        if source.length.is_some() && done == 0 && frames.waiting() >= 16 && !frames.has_any() {
+            return Err(fault!(
+                "{} begins with no message: is it the right file? (`cat FILE | zhitomrak keep FOLDER --from -` keeps anything)",
+                name.display()
+            ));
+        }
+        done += got as u64;
+        write(watch, frames.take(got == 0), manner, so)?;
+        if !asked && done >= NOTHING as u64 && source.length.is_none() {
+            asked = true;
+            if so.counts.of_messages() == 0 {
+                say!("nothing that came so far is a message: is it the right device, at the right speed?");
             }
         }
-        drop(now);
         if got == 0 {
             return Ok(());
         }
-        bytes.copy_within(whole..filled, 0);
-        filled -= whole;
-        done += got as u64;
         progress.at(done);
     }
+    if frames.waiting() > 0 {
+        let begun = counted(frames.waiting(), "byte");
+        say!("of the last message only {begun} had come; that is not kept");
+    }
+    Ok(())
+}
+
+/// Writes what came to the journal, has it heard, and tells what there is to tell.
+fn write(watch: &mut Watch, cut: Cut, manner: Manner, so: &mut So) -> Result<()> {
+    for slip in &cut.slips {
+        let bytes = counted(*slip, "byte");
+        say!("{bytes} are the rest of a message that was cut; the next begins behind them");
+    }
+    for sent in cut.sent.chunks(manner.at_a_time) {
+        let came_to = watch.keep(sent)?;
+        for (sent, came_to) in sent.iter().zip(&came_to) {
+            so.counts.add(came_to);
+            let Sent::Message { bytes, length } = sent else {
+                continue;
+            };
+            let message = &bytes[..*length];
+            if came_to.is_ok() {
+                far_ahead(watch, message, &mut so.newest);
+            }
+            if manner.verbose {
+                writeln!(so.out, "{}", told(watch, message, came_to)).map_err(cannot_tell)?;
+            }
+            if so.coming.is_shown() {
+                let counts = so.counts.in_short();
+                so.coming
+                    .last(|| format!("{counts}; the last: {}", told(watch, message, came_to)));
+            }
+        }
+        so.out.flush().map_err(cannot_tell)?;
+    }
+    Ok(())
+}
+
+/// Tells of a minute that is more than a day after everything heard before: if it is wrong, its channel hears nothing until then.
+fn far_ahead(watch: &Watch, message: &[u8], newest: &mut Option<u32>) {
+    let minute = u32::from_le_bytes([message[4], message[5], message[6], message[7]]);
+    if newest.is_some_and(|newest| minute > newest.saturating_add(24 * 60)) {
+        say!(
+            "{}: more than a day after everything heard before; is its clock right?",
+            name(watch, message)
+        );
+    }
+    *newest = (*newest).max(Some(minute));
 }

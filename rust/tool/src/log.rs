@@ -8,7 +8,7 @@ use std::path::{Path, PathBuf};
 use zhitomrak::watchfile::{Record, WatchFile, MAX_BYTES, MAX_RECORDS};
 use zhitomrak::Kind;
 
-use crate::fault::{cannot, fault, say, Result};
+use crate::fault::{cannot, fault, say, Fault, Result, REFUSED};
 use crate::files::{self, Old};
 use crate::sheet::refusal;
 
@@ -23,6 +23,7 @@ pub struct Sheet {
 pub struct Log {
     folder: PathBuf,
     sheets: Vec<Sheet>,
+    broken: usize,
     /// The number of the next sheet.
     next: usize,
     _lock: File,
@@ -41,7 +42,8 @@ pub enum Put {
 
 /// What bytes are as a watch file; or the refusal, with the file's name.
 pub fn watch_file(name: &Path, bytes: &[u8]) -> Result<WatchFile> {
-    WatchFile::from_bytes(bytes).map_err(|why| fault!("{}: {}", name.display(), refusal(why)))
+    WatchFile::from_bytes(bytes)
+        .map_err(|why| Fault(format!("{}: {}", name.display(), refusal(why)), REFUSED))
 }
 
 /// A watch file that a person names. One byte more than the longest has is enough to find it broken.
@@ -56,6 +58,26 @@ fn find(file: &WatchFile, record: &Record) -> Option<Record> {
         .find(|other| other.minute() == record.minute() && kind(other) == kind(record))
 }
 
+/// The numbers of the sheets that a folder has, in their order.
+fn numbers(folder: &Path) -> io::Result<Vec<usize>> {
+    let mut numbers = Vec::new();
+    for file in fs::read_dir(folder)? {
+        let name = file?.file_name();
+        let name = name.to_string_lossy();
+        let number = name
+            .strip_prefix("log-")
+            .and_then(|rest| rest.strip_suffix(".watch"));
+        // as it is written: log-07.watch is none
+        numbers.extend(
+            number
+                .and_then(|n| n.parse().ok())
+                .filter(|n: &usize| *n > 0 && name == format!("log-{n}.watch")),
+        );
+    }
+    numbers.sort_unstable();
+    Ok(numbers)
+}
+
 impl Log {
     /// Reads the sheets of a folder. One that is broken is told of, and stays as it is.
     pub fn open(folder: &Path) -> Result<Log> {
@@ -64,22 +86,29 @@ impl Log {
         let mut log = Log {
             folder: folder.to_path_buf(),
             sheets: Vec::new(),
+            broken: 0,
             next: 1,
             _lock: lock,
         };
-        for number in 1.. {
+        // nobody else has the lock, so these are of one that was killed
+        files::clear_away(folder, "log-");
+        for number in numbers(folder).map_err(cannot("read", folder))? {
+            log.next = number + 1;
             let path = log.path(number);
-            match fs::symlink_metadata(&path) {
-                Err(error) if error.kind() == io::ErrorKind::NotFound => break,
-                Err(error) => return Err(cannot("read", &path)(error)),
-                Ok(_) => log.next = number + 1,
-            }
             match read(&path) {
                 Ok(file) => log.sheets.push(Sheet { number, path, file }),
-                Err(why) => say!("{why}; that sheet of the log is left as it is"),
+                Err(why) => {
+                    say!("{why}; that sheet of the log is left as it is");
+                    log.broken += 1;
+                }
             }
         }
         Ok(log)
+    }
+
+    /// How many sheets are broken.
+    pub fn broken(&self) -> usize {
+        self.broken
     }
 
     fn path(&self, number: usize) -> PathBuf {

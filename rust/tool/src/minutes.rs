@@ -4,7 +4,7 @@
 use chrono::{DateTime, Duration, NaiveDateTime, NaiveTime, Timelike, Utc};
 use zhitomrak::LAST_MINUTE;
 
-use crate::fault::{fault, Result};
+use crate::fault::{fault, unclear, Result};
 
 /// When minute 0 was, where that is known.
 #[derive(Clone, Copy, Debug, Default)]
@@ -70,21 +70,32 @@ impl Clock {
         let minutes = time.signed_duration_since(epoch).num_minutes();
         match u32::try_from(minutes) {
             Ok(minute) if time >= epoch && minute <= LAST_MINUTE => Ok(minute),
-            _ if time < epoch => Err(fault!(
+            _ if time < epoch => Err(unclear!(
                 "`{text}` is before minute 0, {}",
                 epoch.format("%Y-%m-%d %H:%M UTC")
             )),
-            _ => Err(fault!("`{text}` is after the last minute, {LAST_MINUTE}")),
+            _ => Err(unclear!("`{text}` is after the last minute, {LAST_MINUTE}")),
         }
     }
 
-    /// The minute that a person wrote: a whole number; a date and time; a time, which is the one nearest to the newest minute heard;
-    /// or `now`.
+    /// The minute that the clock shows now; none where the epoch is not known, or lies ahead.
+    pub fn now(&self) -> Option<u32> {
+        self.epoch?;
+        self.minute_of("now", Utc::now()).ok()
+    }
+
+    /// The minute that a person wrote: a whole number; a date and time; `now`; or a time, which is the last such one that is no more
+    /// than an hour after the newest minute heard.
     pub fn minute(&self, text: &str, newest: Option<u32>) -> Result<u32> {
+        self.minute_before(text, newest.map(|newest| newest.saturating_add(AHEAD)))
+    }
+
+    /// The same, where a time without its day is the last such one up to a minute.
+    fn minute_before(&self, text: &str, latest: Option<u32>) -> Result<u32> {
         if !text.is_empty() && text.bytes().all(|b| b.is_ascii_digit()) {
             return text
                 .parse()
-                .map_err(|_| fault!("`{text}` is too large for a minute"));
+                .map_err(|_| unclear!("`{text}` is too large for a minute"));
         }
         if text == "now" {
             return self.minute_of(text, Utc::now());
@@ -93,7 +104,12 @@ impl Clock {
             .strip_suffix('Z')
             .or_else(|| text.strip_suffix(" UTC"))
             .unwrap_or(text);
-        for form in ["%Y-%m-%dT%H:%M", "%Y-%m-%d %H:%M"] {
+        for form in [
+            "%Y-%m-%dT%H:%M",
+            "%Y-%m-%d %H:%M",
+            "%Y-%m-%dT%H:%M:00",
+            "%Y-%m-%d %H:%M:00",
+        ] {
             if let Ok(time) = NaiveDateTime::parse_from_str(bare, form) {
                 return self.minute_of(text, DateTime::from_utc(time, Utc));
             }
@@ -102,25 +118,24 @@ impl Clock {
             if self.epoch.is_none() {
                 return self.minute_of(text, Utc::now());
             }
-            let newest = newest.and_then(|minute| self.time(minute)).ok_or_else(|| {
-                fault!(
+            let latest = latest.and_then(|minute| self.time(minute)).ok_or_else(|| {
+                unclear!(
                     "`{text}` is a time without its day, and nothing is heard yet: say the day too"
                 )
             })?;
-            let that_day = DateTime::<Utc>::from_utc(newest.date_naive().and_time(time), Utc);
-            let days = [-1, 0, 1].map(|days| that_day + Duration::days(days));
-            let nearest = days
-                .into_iter()
-                .min_by_key(|day| (*day - newest).num_minutes().abs());
-            let day = nearest.unwrap_or(that_day);
+            let mut day = DateTime::<Utc>::from_utc(latest.date_naive().and_time(time), Utc);
+            if day > latest {
+                day = day - Duration::days(1);
+            }
             return self.minute_of(text, day);
         }
-        Err(fault!(
+        Err(unclear!(
             "`{text}` is neither a minute, as 1081, nor a time, as 18:01 or 2026-11-16T18:01"
         ))
     }
 
-    /// One minute, or a stretch of them: `1081`, `18:01`, `900..1081`, `15:00..18:01`.
+    /// One minute, or a stretch of them: `1081`, `18:01`, `900..1081`, `15:00..18:01`, and `900..` up to the newest. A time that ends
+    /// a stretch is the first such one from its beginning on.
     pub fn stretch(&self, text: &str, newest: Option<u32>) -> Result<Stretch> {
         let Some((first, last)) = text.split_once("..") else {
             let minute = self.minute(text, newest)?;
@@ -129,13 +144,21 @@ impl Clock {
                 last: minute,
             });
         };
-        let (first, last) = (self.minute(first, newest)?, self.minute(last, newest)?);
+        let first = self.minute(first, newest)?;
+        let last = match newest {
+            Some(newest) if last.is_empty() => newest,
+            // the last such time within a day
+            _ => self.minute_before(last, Some(first.saturating_add(24 * 60 - 1)))?,
+        };
         if first > last {
-            return Err(fault!("`{text}` ends before it begins"));
+            return Err(unclear!("`{text}` ends before it begins"));
         }
         Ok(Stretch { first, last })
     }
 }
+
+/// How many minutes after the newest a time without its day may be.
+const AHEAD: u32 = 60;
 
 #[cfg(test)]
 mod tests {
@@ -153,10 +176,9 @@ mod tests {
             ("0", 0),
             ("18:01", 1081),
             ("18:02", 1082),
-            ("06:02", 362),
-            ("06:01", 361),
-            ("06:00", 1800),
-            ("00:00", 1440),
+            ("19:01", 1141),
+            ("00:00", 0),
+            ("2026-11-16T18:01:00Z", 1081),
             ("2026-11-16T18:01", 1081),
             ("2026-11-16 18:01", 1081),
             ("2026-11-16T18:01Z", 1081),
@@ -165,8 +187,12 @@ mod tests {
         ] {
             assert_eq!(clock().minute(text, newest).unwrap(), minute, "{text}");
         }
+        assert_eq!(clock().minute("18:02", Some(1440)).unwrap(), 1082);
         let before = clock().minute("23:00", Some(5)).unwrap_err();
-        assert_eq!(before.0, "`23:00` is before minute 0, 2026-11-16 00:00 UTC");
+        assert_eq!(
+            (before.0.as_str(), before.1),
+            ("`23:00` is before minute 0, 2026-11-16 00:00 UTC", 2)
+        );
         for wrong in [
             "",
             "-1",
@@ -209,7 +235,29 @@ mod tests {
             }
         );
         assert_eq!(stretch("7").unwrap(), Stretch { first: 7, last: 7 });
-        for wrong in ["1081..900", "..", "900..", "..900", "900...901"] {
+        let across = |text| clock().stretch(text, Some(2000)).unwrap();
+        assert_eq!(
+            across("23:00..01:00"),
+            Stretch {
+                first: 1380,
+                last: 1500
+            }
+        );
+        assert_eq!(
+            across("10:21..10:20"),
+            Stretch {
+                first: 621,
+                last: 2060
+            }
+        );
+        assert_eq!(
+            across("900.."),
+            Stretch {
+                first: 900,
+                last: 2000
+            }
+        );
+        for wrong in ["1081..900", "..", "..900", "900...901"] {
             assert!(stretch(wrong).is_err(), "{wrong}");
         }
     }

@@ -9,12 +9,13 @@ use crate::fault::{fault, Result};
 use crate::journal::{Access, Sent};
 use crate::minutes::{Clock, Stretch};
 use crate::picture::{Arrow, Line, Panel, Picture};
-use crate::status::KEPT;
+use crate::status::{apart, KEPT};
 use crate::watch::Watch;
 
 /// What can be drawn, with the channels that feed it, the first of which says up to when.
-pub const SUBJECTS: [(&str, &[Channel]); 3] = [
+pub const SUBJECTS: [(&str, &[Channel]); 4] = [
     ("barometer", &[Channel::Barometer, Channel::Wheelhouse]),
+    ("pressure", &[Channel::Barometer, Channel::Wheelhouse]),
     ("wind", &[Channel::ApparentWind, Channel::ShipMotion]),
     (
         "humidity",
@@ -36,11 +37,17 @@ struct Drawn {
 fn drawn(store: &Store, subject: &str, minute: u32) -> Drawn {
     let mut drawn = Drawn::default();
     match subject {
-        "barometer" => {
-            if let Ok(Reading::Barometer { tenths, .. }) = store.reading(Channel::Barometer, minute)
-            {
-                drawn.values[0] = Some(f64::from(tenths) / 10.0);
-            }
+        "barometer" | "pressure" => {
+            drawn.values[0] = match subject {
+                "pressure" => store
+                    .pressure(minute)
+                    .ok()
+                    .map(|pressure| pressure.hectopascals()),
+                _ => match store.reading(Channel::Barometer, minute) {
+                    Ok(Reading::Barometer { tenths, .. }) => Some(f64::from(tenths) / 10.0),
+                    _ => None,
+                },
+            };
             if let Ok(tendency) = store.tendency(minute) {
                 let change = tendency.change.hectopascals();
                 // level for none, steep for 4 hPa and more
@@ -128,11 +135,17 @@ pub fn picture(folder: &Path, subject: &str, when: Option<&str>) -> Result<(Pict
         .settings()
         .map(|settings| settings.unit)
         .unwrap_or_default();
-    Ok((drawing(subject, unit, stretch, &of, clock), watch))
+    let name = folder
+        .file_name()
+        .unwrap_or(folder.as_os_str())
+        .to_string_lossy()
+        .into_owned();
+    Ok((drawing(&name, subject, unit, stretch, &of, clock), watch))
 }
 
-/// The panels of a subject over a stretch.
+/// The panels of a subject over a stretch, of the watch of a name.
 fn drawing(
+    watch: &str,
     subject: &str,
     unit: Unit,
     stretch: Stretch,
@@ -150,19 +163,25 @@ fn drawing(
         .range(first..=last)
         .filter(|&(&minute, _)| clock.on_the_hour(minute) || minute == last)
         .filter_map(|(&minute, drawn)| {
-            drawn
-                .arrow
-                .clone()
-                .map(|(turn, text)| Arrow { minute, turn, text })
+            let arrow = drawn.arrow.clone();
+            arrow.map(|(turn, text)| Arrow { minute, turn, text })
         })
         .collect();
-    let panel = |name: &str, unit, decimals, lines, arrows, at_least| Panel {
-        name: name.to_string(),
-        unit,
-        decimals,
-        lines,
-        arrows,
-        at_least,
+    let panel = |name: &str, unit, decimals, lines: Vec<Line>, arrows, at_least| {
+        let there = |at: usize| lines.iter().any(|line| line.values[at].is_some());
+        let apart = apart((0..lines[0].values.len()).map(there));
+        Panel {
+            name: match apart {
+                Some(apart) => format!("{name}, most {apart} minutes apart"),
+                None => name.to_string(),
+            },
+            unit,
+            decimals,
+            lines,
+            arrows,
+            at_least,
+            apart: apart.unwrap_or(1) as usize,
+        }
     };
     let (title, panels) = match subject {
         "barometer" => {
@@ -170,51 +189,53 @@ fn drawing(
                 Unit::Hectopascals => "hPa",
                 Unit::MillimetresOfMercury => "mm Hg",
             };
-            (
-                "Barometer",
-                vec![panel(
-                    "barometer",
-                    unit,
-                    1,
-                    vec![line("barometer", 0)],
-                    arrows,
-                    None,
-                )],
-            )
+            let panel = panel("as read", unit, 1, vec![line("barometer", 0)], arrows, None);
+            ("barometer", vec![panel])
         }
-        "wind" => (
-            "True wind",
-            vec![panel(
+        "pressure" => {
+            let panel = panel(
+                "pressure",
+                "hPa",
+                1,
+                vec![line("pressure", 0)],
+                arrows,
+                None,
+            );
+            ("pressure at sea level", vec![panel])
+        }
+        "wind" => {
+            let panel = panel(
                 "speed",
                 "m/s",
                 1,
                 vec![line("speed", 0)],
                 arrows,
                 Some((0.0, 5.0)),
-            )],
-        ),
+            );
+            ("true wind", vec![panel])
+        }
         _ => {
+            let relative = line("relative humidity", 0);
             let relative = panel(
                 "relative humidity",
                 "%",
                 0,
-                vec![line("relative humidity", 0)],
+                vec![relative],
                 vec![],
                 Some((0.0, 100.0)),
             );
-            let degrees = panel(
-                "temperature",
-                "°C",
-                1,
-                vec![line("dry bulb", 1), line("dew point", 2)],
-                vec![],
-                None,
-            );
-            ("Humidity", vec![relative, degrees])
+            let degrees = vec![line("dry bulb", 1), line("dew point", 2)];
+            (
+                "humidity",
+                vec![
+                    relative,
+                    panel("temperature", "°C", 1, degrees, vec![], None),
+                ],
+            )
         }
     };
     Picture {
-        title: title.to_string(),
+        title: format!("{watch}: {title}"),
         first,
         last,
         panels,

@@ -82,6 +82,11 @@ impl Coming {
         Coming { line }
     }
 
+    /// Whether it is shown to anybody.
+    pub fn is_shown(&self) -> bool {
+        self.line.is_some()
+    }
+
     pub fn last(&self, what: impl FnOnce() -> String) {
         if let Some(line) = &self.line {
             line.set_message(what());

@@ -6,10 +6,11 @@ use std::path::{Path, PathBuf};
 use clap::ArgMatches;
 use serde_json::json;
 use zhitomrak::watchfile::{self, Record, WatchFile, LISTING_MAX_BYTES, MAX_BYTES};
-use zhitomrak::{Entry, Kind};
+use zhitomrak::{Entry, Kind, LAST_MINUTE};
 
 use crate::answers::{self, Form};
-use crate::fault::{cannot, counted, fault, Result};
+use crate::ended::ended;
+use crate::fault::{cannot, counted, fault, unclear, Result};
 use crate::files::{self, Old};
 use crate::hand;
 use crate::journal::{Access, Sent};
@@ -100,9 +101,14 @@ fn old(told: &ArgMatches) -> Old {
     }
 }
 
-fn kind(told: &ArgMatches) -> Result<Kind> {
+/// The questions that a word names: one, or `all`.
+fn kinds(told: &ArgMatches) -> Result<Vec<Kind>> {
     let name = word(told, "QUESTION");
-    answers::question(name).ok_or_else(|| fault!("`{name}` is no question"))
+    match answers::question(name) {
+        Some(kind) => Ok(vec![kind]),
+        None if name == answers::ALL => Ok(Kind::ALL.to_vec()),
+        None => Err(unclear!("`{name}` is no question")),
+    }
 }
 
 macro_rules! tell {
@@ -126,6 +132,12 @@ pub fn run(name: &str, told: &ArgMatches, desk: &mut Desk, out: &mut dyn Write) 
         "load" => load(told, desk, out),
         "list" => list(told, out),
         "settings" => settings(told, desk, out),
+        "example" => tell!(
+            out,
+            "{}",
+            include_str!("../../../samples/station.toml").trim_end()
+        )
+        .map(|()| Done::Well),
         "why" => {
             let number = told.get_one::<u32>("NUMBER").copied().unwrap_or(0);
             tell!(out, "{}", why::why(number)?.trim_end())?;
@@ -139,12 +151,18 @@ pub fn run(name: &str, told: &ArgMatches, desk: &mut Desk, out: &mut dyn Write) 
 
 fn init(told: &ArgMatches, out: &mut dyn Write) -> Result<Done> {
     let folder = path(told, "FOLDER");
-    watch::init(&folder, &path(told, "settings"))?;
+    let sheet = watch::init(&folder, &path(told, "settings"))?;
     tell!(
         out,
         "{} is a watch now: its settings are in station.toml, and its journal is empty",
         folder.display()
     )?;
+    if sheet.epoch.is_none() {
+        tell!(
+            out,
+            "station.toml has no epoch, so minutes have no times until it has one"
+        )?;
+    }
     Ok(Done::Well)
 }
 
@@ -159,8 +177,8 @@ fn keep(told: &ArgMatches, desk: &mut Desk) -> Result<Done> {
             .into(),
     };
     let watch = desk.watch(told, Access::Write)?;
-    keep::keep(watch, &path(told, "from"), manner, Box::new(io::stdout()))?;
-    Ok(Done::Well)
+    let heard = keep::keep(watch, &path(told, "from"), manner, Box::new(io::stdout()))?;
+    Ok(if heard { Done::Well } else { Done::Refused })
 }
 
 /// The minutes that are asked for; without any the newest of the channel that the question is about.
@@ -173,29 +191,38 @@ fn minutes(told: &ArgMatches, watch: &Watch, kind: Kind) -> Result<Stretch> {
                 last: newest,
             }),
             None => Err(fault!(
-                "nothing is heard yet of what that is worked from: say the minute"
+                "nothing is heard yet of the {}",
+                hand::title(answers::channel(kind))
             )),
         },
     }
 }
 
+/// An answer of a watch, a line.
+fn shown(watch: &Watch, form: Form, kind: Kind, minute: u32, answer: &answers::Answer) -> String {
+    answers::show(
+        form,
+        &watch.clock(),
+        &|channel| watch.kept(channel),
+        kind,
+        minute,
+        answer,
+    )
+}
+
 fn ask(told: &ArgMatches, desk: &mut Desk, out: &mut dyn Write) -> Result<Done> {
-    let (kind, form) = (kind(told)?, form(told));
+    let (kinds, form) = (kinds(told)?, form(told));
     let watch = desk.watch(told, Access::Read)?;
-    let Stretch { first, last } = minutes(told, watch, kind)?;
     let mut done = Done::Well;
-    for minute in first..=last {
-        let answer = answers::ask(watch.store(), kind, minute);
-        tell!(
-            out,
-            "{}",
-            answers::show(form, &watch.clock(), kind, minute, &answer)
-        )?;
-        done = done.max(if answer.is_ok() {
-            Done::Well
-        } else {
-            Done::Refused
-        });
+    for kind in kinds {
+        let Stretch { first, last } = minutes(told, watch, kind)?;
+        for minute in (first..=last).take_while(|_| !ended()) {
+            let answer = answers::ask(watch.store(), kind, minute);
+            tell!(out, "{}", shown(watch, form, kind, minute, &answer))?;
+            if answer.is_err() {
+                done = Done::Refused;
+            }
+        }
     }
     Ok(done)
 }
@@ -205,19 +232,52 @@ fn show_status(told: &ArgMatches, desk: &mut Desk, out: &mut dyn Write) -> Resul
     let text = if told.get_flag("json") {
         status::for_programs(watch).map(|object| format!("{object}\n"))
     } else {
-        status::in_words(watch, told.get_flag("gaps"))
+        status::in_words(watch, told.get_flag("gaps"), columns())
     };
     let text = text.map_err(|why| fault!("{why}"))?;
     out.write_all(text.as_bytes()).map_err(cannot_tell)?;
     Ok(Done::Well)
 }
 
-/// What became of something that was entered.
-fn entered(out: &mut dyn Write, what: &str, kept: &str, came_to: Outcome) -> Result<Done> {
+/// What became of something that was entered for a minute.
+fn entered(
+    out: &mut dyn Write,
+    watch: &Watch,
+    (instrument, minute): (&str, u32),
+    kept: &str,
+    came_to: Outcome,
+) -> Result<Done> {
+    let clock = watch.clock();
+    let what = format!("{}, {instrument}", clock.name(minute));
     match came_to {
-        Ok(()) => tell!(out, "{what}: {kept} is kept").map(|()| Done::Well),
-        Err(why) => tell!(out, "{what}: {}", refusal(why)).map(|()| Done::Refused),
+        Ok(()) => tell!(out, "{what}: kept, {kept}").map(|()| Done::Well),
+        Err(why) => {
+            let why =
+                answers::refused_in_words(&clock, &|channel| watch.kept(channel), minute, why);
+            tell!(out, "{what}: {why}").map(|()| Done::Refused)
+        }
     }
+}
+
+/// The minute of an entry. One that lies ahead of the clock, or a day after everything heard, is likely a slip, and would keep its
+/// instrument from being heard until then.
+fn entry_minute(told: &ArgMatches, watch: &Watch) -> Result<u32> {
+    let clock = watch.clock();
+    let minute = clock.minute(word(told, "WHEN"), watch.newest_of_all())?;
+    let latest = clock.now().map(|now| now.saturating_add(10));
+    let latest = latest.or(watch
+        .newest_of_all()
+        .map(|newest| newest.saturating_add(24 * 60)));
+    if !told.get_flag("ahead")
+        && minute <= LAST_MINUTE
+        && latest.is_some_and(|latest| minute > latest)
+    {
+        return Err(unclear!(
+            "{} is yet to come; --ahead enters it all the same, and until then nothing else is heard of the instrument",
+            clock.name(minute)
+        ));
+    }
+    Ok(minute)
 }
 
 /// What is kept of a channel's minute, as the library says it.
@@ -230,9 +290,7 @@ fn kept(watch: &Watch, channel: zhitomrak::Channel, minute: u32) -> String {
 
 fn reading(told: &ArgMatches, desk: &mut Desk, out: &mut dyn Write) -> Result<Done> {
     let watch = desk.watch(told, Access::Write)?;
-    let minute = watch
-        .clock()
-        .minute(word(told, "WHEN"), watch.newest_of_all())?;
+    let minute = entry_minute(told, watch)?;
     let second = told.get_one::<String>("SECOND").map(String::as_str);
     let (instrument, message) = hand::message(
         word(told, "INSTRUMENT"),
@@ -240,21 +298,16 @@ fn reading(told: &ArgMatches, desk: &mut Desk, out: &mut dyn Write) -> Result<Do
         word(told, "VALUE"),
         second,
     )?;
-    let came_to = watch.keep_one(Sent::messages(message.as_bytes()))?;
-    let what = format!("{}, {}", watch.clock().name(minute), instrument.title);
-    entered(
-        out,
-        &what,
-        &kept(watch, instrument.channel, minute),
-        came_to,
-    )
+    let came_to = watch.enter(Sent::message(message.as_bytes()))?;
+    let kept = kept(watch, instrument.channel, minute);
+    entered(out, watch, (instrument.title, minute), &kept, came_to)
 }
 
 fn dial(told: &ArgMatches, desk: &mut Desk, out: &mut dyn Write) -> Result<Done> {
     let number = |name: &str| {
         let text = word(told, name);
         text.parse::<u32>().map_err(|_| {
-            fault!("`{text}` is no whole number, as the dial, the compass and the watch show")
+            unclear!("`{text}` is no whole number, as the dial, the compass and the watch show")
         })
     };
     let (direction, first, second, seconds) = (
@@ -264,9 +317,7 @@ fn dial(told: &ArgMatches, desk: &mut Desk, out: &mut dyn Write) -> Result<Done>
         number("SECONDS")?,
     );
     let watch = desk.watch(told, Access::Write)?;
-    let minute = watch
-        .clock()
-        .minute(word(told, "WHEN"), watch.newest_of_all())?;
+    let minute = entry_minute(told, watch)?;
     let entry = Entry {
         minute,
         direction,
@@ -274,32 +325,29 @@ fn dial(told: &ArgMatches, desk: &mut Desk, out: &mut dyn Write) -> Result<Done>
         second,
         seconds,
     };
-    let came_to = watch.keep_one([Sent::Entry(entry)])?;
-    let what = format!("{}, hand anemometer", watch.clock().name(minute));
-    entered(
-        out,
-        &what,
-        &kept(watch, zhitomrak::Channel::ApparentWind, minute),
-        came_to,
-    )
+    let came_to = watch.enter(Sent::Entry(entry))?;
+    let kept = kept(watch, zhitomrak::Channel::ApparentWind, minute);
+    entered(out, watch, ("hand anemometer", minute), &kept, came_to)
 }
 
 fn put(told: &ArgMatches, desk: &mut Desk, out: &mut dyn Write) -> Result<Done> {
-    let (kind, old) = (kind(told)?, old(told));
+    let (kinds, old) = (kinds(told)?, old(told));
     let watch = desk.watch(told, Access::Read)?;
-    let Stretch { first, last } = minutes(told, watch, kind)?;
     let mut log = Log::open(watch.folder())?;
     let mut done = Done::Well;
-    for minute in first..=last {
-        let answer = answers::ask(watch.store(), kind, minute);
-        let shown = answers::show(Form::Words, &watch.clock(), kind, minute, &answer);
-        let Ok(body) = answer else {
-            tell!(out, "{shown}")?;
-            done = Done::Refused;
-            continue;
-        };
-        let became = log.put(&Record::new(minute, body), old)?;
-        tell!(out, "{shown}; {}", in_words(&became))?;
+    for kind in kinds {
+        let Stretch { first, last } = minutes(told, watch, kind)?;
+        for minute in (first..=last).take_while(|_| !ended()) {
+            let answer = answers::ask(watch.store(), kind, minute);
+            let shown = shown(watch, Form::Words, kind, minute, &answer);
+            let Ok(body) = answer else {
+                tell!(out, "{shown}")?;
+                done = Done::Refused;
+                continue;
+            };
+            let became = log.put(&Record::new(minute, body), old)?;
+            tell!(out, "{shown}; {}", in_words(&became))?;
+        }
     }
     Ok(done)
 }
@@ -308,7 +356,7 @@ fn put(told: &ArgMatches, desk: &mut Desk, out: &mut dyn Write) -> Result<Done> 
 fn in_words(put: &Put) -> String {
     match put {
         Put::Placed { sheet, new: true } if *sheet > 1 => {
-            format!("logged, the first of log-{sheet}.watch, since the sheet before it is full")
+            format!("logged, the first of a new sheet, log-{sheet}.watch")
         }
         Put::Placed { .. } => "logged".into(),
         Put::There { .. } => "it was in the log already".into(),
@@ -322,7 +370,7 @@ fn record_in_words(clock: &Clock, record: &Record) -> String {
         Some(body) => format!(
             "{}: {}",
             clock.name(record.minute()),
-            answers::in_words(&Ok(body))
+            answers::in_words(&body)
         ),
         None => record.to_string(),
     }
@@ -349,7 +397,7 @@ fn records(file: &WatchFile, form: Form, clock: &Clock, out: &mut dyn Write) -> 
 fn show(told: &ArgMatches, desk: &mut Desk, out: &mut dyn Write) -> Result<Done> {
     let (clock, form) = (desk.clock(told), form(told));
     let log = Log::open(&desk.folder(told)?)?;
-    if log.sheets().is_empty() && form == Form::Words {
+    if log.sheets().is_empty() && log.broken() == 0 && form == Form::Words {
         tell!(out, "the log is empty")?;
     }
     for sheet in log.sheets() {
@@ -367,28 +415,39 @@ fn show(told: &ArgMatches, desk: &mut Desk, out: &mut dyn Write) -> Result<Done>
 }
 
 fn take_out(told: &ArgMatches, desk: &mut Desk, out: &mut dyn Write) -> Result<Done> {
-    let (clock, kind) = (desk.clock(told), kind(told)?);
+    let (clock, kinds) = (desk.clock(told), kinds(told)?);
     let mut log = Log::open(&desk.folder(told)?)?;
     let newest = log.records().last().map(|(_, record)| record.minute());
     let minute = clock.minute(word(told, "WHEN"), newest)?;
-    match log.take_out(kind, minute)? {
-        Some((_, record)) => tell!(
-            out,
-            "taken out of the log: {}",
-            record_in_words(&clock, &record)
-        )
-        .map(|()| Done::Well),
-        None => {
-            let why = zhitomrak::Refused::NoRecord;
-            tell!(out, "{}: {}", clock.name(minute), refusal(why)).map(|()| Done::Refused)
+    let mut done = Done::Refused;
+    for kind in kinds {
+        if let Some((_, record)) = log.take_out(kind, minute)? {
+            tell!(
+                out,
+                "taken out of the log: {}",
+                record_in_words(&clock, &record)
+            )?;
+            done = Done::Well;
         }
     }
+    if done == Done::Refused {
+        tell!(
+            out,
+            "{}: {}",
+            clock.name(minute),
+            refusal(zhitomrak::Refused::NoRecord)
+        )?;
+    }
+    Ok(done)
 }
 
-/// A file of a person's own: not one that a watch lives by.
+/// A file of a person's own: not one that a watch lives by, nor - for standard output.
 fn own(path: &Path) -> Result<()> {
     let (parent, name) = files::parts(path)?;
     let name = name.to_string_lossy();
+    if path.as_os_str() == "-" {
+        return Err(unclear!("it is saved to a file, and - is none"));
+    }
     let a_watch_s = parent.join(watch::JOURNAL).exists()
         && (["station.toml", "journal", "torn", "history"].contains(&&*name)
             || (name.starts_with("log-") && name.ends_with(".watch")));
@@ -407,17 +466,21 @@ fn save(told: &ArgMatches, desk: &mut Desk, out: &mut dyn Write) -> Result<Done>
     let log = Log::open(&desk.folder(told)?)?;
     let sheets = log.sheets();
     let sheet = match (told.get_one::<usize>("sheet"), sheets) {
+        (_, []) if log.broken() > 0 => return Err(fault!("the log has no sheet that is whole")),
         (_, []) => return Err(fault!("the log is empty: there is nothing to save")),
         (Some(&number), _) => sheets
             .iter()
             .find(|sheet| sheet.number == number)
             .ok_or_else(|| fault!("the log has no sheet {number}"))?,
-        (None, [only]) => only,
-        (None, [.., last]) => {
-            let count = sheets.len();
-            return Err(fault!(
-                "the log has {count} sheets, up to {}: say which with --sheet N; `show` shows them",
-                last.number
+        (None, [only]) if log.broken() == 0 => only,
+        (None, _) => {
+            let whole: Vec<String> = sheets
+                .iter()
+                .map(|sheet| sheet.number.to_string())
+                .collect();
+            return Err(unclear!(
+                "the log has several sheets: say which with --sheet N, of {}; `show` shows them",
+                whole.join(", ")
             ));
         }
     };
@@ -498,6 +561,15 @@ fn list(told: &ArgMatches, out: &mut dyn Write) -> Result<Done> {
     }
 }
 
+/// How wide the terminal is; 100 where there is none.
+fn columns() -> usize {
+    let size = io::stdout()
+        .is_terminal()
+        .then(terminal_size::terminal_size)
+        .flatten();
+    size.map_or(100, |(width, _)| usize::from(width.0).max(60))
+}
+
 /// Whether the terminal's letters are Unicode's, by the environment.
 fn unicode() -> bool {
     let set = |name| std::env::var(name).ok().filter(|value| !value.is_empty());
@@ -529,6 +601,14 @@ fn draw(told: &ArgMatches, desk: &mut Desk, out: &mut dyn Write) -> Result<Done>
         return Ok(Done::Well);
     };
     own(&to)?;
+    if to
+        .extension()
+        .is_none_or(|ending| !ending.eq_ignore_ascii_case("svg"))
+    {
+        return Err(unclear!(
+            "a picture is SVG: its name is to end with .svg, as in barometer.svg"
+        ));
+    }
     let text = picture::svg(&picture).map_err(|why| fault!("cannot draw that: {why}"))?;
     files::save(&to, text.as_bytes(), old(told))?;
     tell!(out, "drawn to {}", to.display())?;

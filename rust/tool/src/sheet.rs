@@ -10,7 +10,7 @@ use zhitomrak::{
     AnemometerCertificate, AnemometerPoint, Certificate, Point, Refused, Settings, Store, Unit,
 };
 
-use crate::fault::{counted, Fault, Result};
+use crate::fault::{counted, unclear, Fault, Result, NOT_UNDERSTOOD, REFUSED};
 
 /// What a station.toml says.
 #[derive(Clone, Debug)]
@@ -169,33 +169,64 @@ fn first_wrong<P: Copy>(
     })
 }
 
+/// What may be meant where a line is no TOML, or says more or less than it should.
+fn hint(line: &str) -> &'static str {
+    let said = line.split('#').next().unwrap_or(line);
+    let bytes = said.as_bytes();
+    let digit = |at: usize| bytes.get(at).is_some_and(u8::is_ascii_digit);
+    let comma = (1..bytes.len()).any(|at| bytes[at] == b',' && digit(at - 1) && digit(at + 1));
+    let value = said
+        .split_once('=')
+        .map_or("", |(_, value)| value.trim_start());
+    let unit = value.starts_with(|first: char| first.is_ascii_digit() || first == '-')
+        && value.contains(|letter: char| letter.is_alphabetic() && !"eE_".contains(letter));
+    if said.contains(|letter| matches!(letter, '\u{400}'..='\u{4ff}')) {
+        " (there is a Cyrillic letter in this line)"
+    } else if said.contains(['\u{2212}', '\u{2013}']) {
+        " (a minus is to be -)"
+    } else if comma {
+        " (a number has a point, as 12.0)"
+    } else if unit {
+        " (a number stands without its unit)"
+    } else {
+        ""
+    }
+}
+
+/// Why a text is no station.toml, with the line.
+fn not_toml(name: &str, text: &str, error: &toml::de::Error) -> Fault {
+    let message = error.to_string();
+    // toml's own words end with the key, and with line and column
+    let words = message.split(" at line ").next().unwrap_or(&message);
+    if let Some(missing) = words.strip_prefix("missing field ") {
+        return unclear!("{name}: it does not say {missing}");
+    }
+    // of a name, and of a list of another length, toml tells where the table begins
+    let named = ["unknown field `", "duplicate field `", "for key `"]
+        .into_iter()
+        .find_map(|before| words.split_once(before)?.1.split('`').next());
+    let its_line = |name: &str| {
+        text.lines()
+            .collect::<Vec<_>>()
+            .iter()
+            .rposition(|line| line.trim_start().starts_with(name))
+    };
+    let line = named
+        .and_then(its_line)
+        .or(error.line_col().map(|(line, _)| line))
+        .unwrap_or(0);
+    let words = words.split(" for key `").next().unwrap_or(words);
+    unclear!(
+        "{name}, line {}: {words}{}",
+        line + 1,
+        hint(text.lines().nth(line).unwrap_or_default())
+    )
+}
+
 /// What the text says; or every fault in it, a line for each, with the file's name in front.
 pub fn read(name: &str, text: &str) -> Result<Sheet> {
     let told = |line: usize, words: &str| format!("{name}, line {line}: {words}");
-    let written: Written = toml::from_str(text).map_err(|error| {
-        let message = error.to_string();
-        // toml's own words end with the key, and with line and column
-        let words = message.split(" at line ").next().unwrap_or(&message);
-        // of a name that is not known toml tells where the table begins
-        let unknown = words
-            .strip_prefix("unknown field `")
-            .and_then(|rest| rest.split('`').next());
-        let its_line = |name: &str| {
-            text.lines()
-                .position(|line| line.trim_start().starts_with(name))
-        };
-        let missing = words.starts_with("missing field");
-        let line = unknown
-            .and_then(its_line)
-            .or(error.line_col().map(|(line, _)| line));
-        match line.filter(|_| !missing) {
-            Some(line) => Fault(told(line + 1, words)),
-            None => Fault(format!(
-                "{name}: {}",
-                words.replace("missing field", "it does not say")
-            )),
-        }
-    })?;
+    let written: Written = toml::from_str(text).map_err(|error| not_toml(name, text, &error))?;
     let mut text = Text {
         text,
         faults: Vec::new(),
@@ -214,7 +245,7 @@ pub fn read(name: &str, text: &str) -> Result<Sheet> {
         let time = epoch.get_ref().to_string().parse::<DateTime<Utc>>().ok();
         let whole = time.filter(|time| time.timestamp() % 60 == 0);
         if whole.is_none() {
-            let words = "epoch: it is to be a whole minute with its zone, as 2026-11-16T00:00:00Z";
+            let words = "epoch: it is to be a day that there is, and a whole minute with its zone, as 2026-11-16T00:00:00Z";
             text.fault(epoch.start(), words.into());
         }
         whole
@@ -226,11 +257,16 @@ pub fn read(name: &str, text: &str) -> Result<Sheet> {
         return Ok(Sheet { settings, epoch });
     }
     text.faults.sort();
-    let mut lines = String::new();
-    for (line, words) in &text.faults {
-        let _ = writeln!(lines, "{}", told(*line, words));
-    }
-    Err(Fault(lines.trim_end().to_string()))
+    let lines: Vec<String> = text
+        .faults
+        .iter()
+        .map(|(line, words)| told(*line, words))
+        .collect();
+    let refused = lines.iter().all(|line| line.contains(": refused "));
+    Err(Fault(
+        lines.join("\n"),
+        if refused { REFUSED } else { NOT_UNDERSTOOD },
+    ))
 }
 
 /// The settings in the library's whole numbers; what cannot be said in them is a fault.
@@ -511,6 +547,13 @@ mod tests {
             ("12.0", "99999999999", "line 3: height_m: 99999999999 is too large"),
             ("12.0", "\"12\"", "line 3: "),
             ("height_m", "height_ft", "line 3: unknown field `height_ft`"),
+            ("12.0\n", "12.0\nheight_m = 13.0\n", "line 4: duplicate field `height_m`"),
+            ("-0.3]", "-0,3]", "line 5: invalid length 3, expected 2 elements in sequence (a number has a point, as 12.0)"),
+            ("12.0", "12,0", "line 3: expected newline, found a comma (a number has a point, as 12.0)"),
+            ("12.0", "12.0 m", "line 3: expected newline, found an identifier (a number stands without its unit)"),
+            ("height_m", "h\u{435}ight_m", "(there is a Cyrillic letter in this line)"),
+            ("-0.002", "\u{2212}0.002", "(a minus is to be -)"),
+            ("2026-11-16", "2026-11-31", "line 1: epoch: it is to be a day that there is"),
             ("height_m = 12.0\n", "", "it does not say `height_m`"),
             ("12.0", "12.0 13", "line 3: "),
             ("\"hPa\"", "\"kPa\"", "line 2: barometer_unit: \"kPa\" is neither"),

@@ -8,9 +8,10 @@ use rustyline::completion::{Completer, FilenameCompleter, Pair};
 use rustyline::error::ReadlineError;
 use rustyline::{CompletionType, Config, Context, Editor};
 
-use crate::answers::{question, QUESTIONS};
+use crate::answers::{question, ALL, QUESTIONS};
 use crate::commands::{all, Place};
-use crate::fault::{cannot, fault, say, Result};
+use crate::ended::in_order;
+use crate::fault::{cannot, fault, say, unclear, Result};
 use crate::hand::INSTRUMENTS;
 use crate::journal::Access;
 use crate::keep::cannot_tell;
@@ -18,25 +19,27 @@ use crate::plot::SUBJECTS;
 use crate::run::{run, Desk, Done};
 use crate::watch::Watch;
 
-/// The words of a line; in quotes one may hold blanks.
+/// The words of a line. In quotes, or behind a backslash, a word may hold blanks.
 fn words(line: &str) -> Result<Vec<String>> {
     let mut words = Vec::new();
     let mut word: Option<String> = None;
     let mut quote = None;
-    for letter in line.chars() {
-        match quote {
-            Some(end) if letter == end => quote = None,
-            Some(_) => word.get_or_insert_with(String::new).push(letter),
-            None if letter == '"' || letter == '\'' => {
+    let mut letters = line.chars();
+    while let Some(letter) = letters.next() {
+        match (letter, quote) {
+            (_, Some(end)) if letter == end => quote = None,
+            ('\\', None) => word.get_or_insert_with(String::new).extend(letters.next()),
+            (_, Some(_)) => word.get_or_insert_with(String::new).push(letter),
+            ('"' | '\'', None) => {
                 quote = Some(letter);
                 word.get_or_insert_with(String::new);
             }
-            None if letter.is_whitespace() => words.extend(word.take()),
-            None => word.get_or_insert_with(String::new).push(letter),
+            _ if letter.is_whitespace() => words.extend(word.take()),
+            _ => word.get_or_insert_with(String::new).push(letter),
         }
     }
     if quote.is_some() {
-        return Err(fault!("a quote is not closed"));
+        return Err(unclear!("a quote is not closed"));
     }
     words.extend(word);
     Ok(words)
@@ -107,24 +110,33 @@ impl rustyline::Helper for Helper {}
 
 /// What clap says of a wrong line, without its advice for a command line.
 fn in_short(error: &str) -> String {
-    let lines = error
-        .lines()
-        .map(str::trim)
-        .take_while(|line| !line.starts_with("Usage:"));
+    let lines = error.lines().map(str::trim);
     let told: Vec<&str> = lines
-        .filter(|line| !line.is_empty() && !line.starts_with("If you believe"))
+        .take_while(|line| !line.starts_with("Usage:") && !line.starts_with("For more information"))
+        .filter(|line| !line.is_empty() && !line.starts_with("If you"))
         .collect();
-    told.join("; ").trim_start_matches("error: ").to_string()
+    told.join(" ").trim_start_matches("error: ").to_string()
+}
+
+/// A line's words as a command: questions may stand without `ask`, `?` is help, and what belongs to a command line is passed over.
+fn as_command(mut words: Vec<String>) -> Vec<String> {
+    if words.first().is_some_and(|word| word == "zhitomrak") {
+        words.remove(0);
+    }
+    match words.first().map(String::as_str) {
+        Some(word) if word == ALL || question(word).is_some() => words.insert(0, "ask".into()),
+        Some("?") => words[0] = "help".into(),
+        Some("keep") => words.retain(|word| word != "--from"),
+        _ => {}
+    }
+    words
 }
 
 /// Does what a line says; what is wrong with it is told.
 fn answer(line: &str, watch: &mut Watch, out: &mut dyn Write) -> Result<Done> {
-    let mut words = words(line)?;
-    match words.first() {
-        None => return Ok(Done::Well),
-        Some(word) if word.starts_with('#') => return Ok(Done::Well),
-        Some(word) if question(word).is_some() => words.insert(0, "ask".into()),
-        Some(_) => {}
+    let words = as_command(words(line)?);
+    if words.first().is_none_or(|word| word.starts_with('#')) {
+        return Ok(Done::Well);
     }
     match all(Place::Prompt).try_get_matches_from(&words) {
         Ok(told) => match told.subcommand() {
@@ -134,16 +146,25 @@ fn answer(line: &str, watch: &mut Watch, out: &mut dyn Write) -> Result<Done> {
         Err(error) if !error.use_stderr() => write!(out, "{error}")
             .map_err(cannot_tell)
             .map(|()| Done::Well),
-        Err(error) => Err(fault!(
+        Err(error) => Err(unclear!(
             "{}; `help` lists the commands",
             in_short(&error.to_string())
         )),
     }
 }
 
+/// The watch, to write to; where that cannot be, to look at.
+fn open(folder: &Path) -> Result<Watch> {
+    Watch::open(folder, Access::Write).or_else(|why| {
+        let watch = Watch::open(folder, Access::Read)?;
+        say!("{why}; the watch is open to be looked at");
+        Ok(watch)
+    })
+}
+
 /// Answers lines until they end, or `quit`.
 pub fn shell(folder: &Path) -> Result<Done> {
-    let mut watch = Watch::open(folder, Access::Write)?;
+    let mut watch = open(folder)?;
     if io::stdin().is_terminal() {
         return at_terminal(&mut watch);
     }
@@ -188,6 +209,7 @@ fn at_terminal(watch: &mut Watch) -> Result<Done> {
         match editor.readline("zhitomrak> ") {
             Ok(line) => {
                 let _ = editor.append_history(&history);
+                in_order();
                 let answered = answer(&line, watch, &mut io::stdout());
                 io::stdout().flush().map_err(cannot_tell)?;
                 match answered {
@@ -216,7 +238,21 @@ mod tests {
         );
         assert!(words("").unwrap().is_empty());
         assert_eq!(words("''").unwrap(), [""]);
+        assert_eq!(
+            words("keep dir\\ with\\ blanks/x").unwrap(),
+            ["keep", "dir with blanks/x"]
+        );
         assert!(words("save 'my").is_err());
+    }
+
+    #[test]
+    fn what_belongs_to_a_command_line_is_passed_over() {
+        let as_command = |line: &str| as_command(words(line).unwrap()).join(" ");
+        assert_eq!(as_command("zhitomrak status"), "status");
+        assert_eq!(as_command("tendency 5"), "ask tendency 5");
+        assert_eq!(as_command("all"), "ask all");
+        assert_eq!(as_command("keep --from x"), "keep x");
+        assert_eq!(as_command("?"), "help");
     }
 
     #[test]

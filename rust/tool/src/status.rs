@@ -1,12 +1,15 @@
 //! What a watch has: of each instrument the newest minute, the last value, what is kept, and the gaps.
 
+use std::collections::BTreeMap;
+
 use serde_json::{json, Value};
-use zhitomrak::Refused;
+use unicode_width::UnicodeWidthStr;
+use zhitomrak::{BulbState, Reading, Refused, Unit};
 
 use crate::answers::time;
 use crate::fault::counted;
 use crate::hand::{Instrument, INSTRUMENTS};
-use crate::minutes::Stretch;
+use crate::minutes::{Clock, Stretch};
 use crate::watch::Watch;
 
 /// The minutes that a channel keeps: its newest and the 255 before it.
@@ -43,21 +46,18 @@ pub fn gaps(from: u32, there: impl IntoIterator<Item = bool>) -> Vec<Stretch> {
     gaps
 }
 
-/// How many minutes most readings are apart, each being there or not; none where that is one, or none are apart.
-fn apart(there: &[u8]) -> Option<u32> {
-    let minutes: Vec<usize> = (0..there.len())
-        .filter(|&minute| there[minute] != 0)
+/// How many minutes most readings are apart, each being there or not; none where that is one, or they are not.
+pub fn apart(there: impl IntoIterator<Item = bool>) -> Option<u32> {
+    let minutes: Vec<u32> = (0..)
+        .zip(there)
+        .filter_map(|(minute, there)| there.then_some(minute))
         .collect();
-    let mut counts = [0; KEPT];
+    let mut counts = BTreeMap::new();
     for pair in minutes.windows(2) {
-        counts[(pair[1] - pair[0]) % KEPT] += 1;
+        *counts.entry(pair[1] - pair[0]).or_insert(0) += 1;
     }
-    let (apart, &count) = counts
-        .iter()
-        .enumerate()
-        .rev()
-        .max_by_key(|&(_, count)| count)?;
-    (apart > 1 && 2 * count > minutes.len()).then_some(apart as u32)
+    let (&apart, &count) = counts.iter().rev().max_by_key(|&(_, count)| count)?;
+    (apart > 1 && 2 * count > minutes.len()).then_some(apart)
 }
 
 /// What is there of an instrument; none where nothing was heard of it.
@@ -71,7 +71,7 @@ pub fn state(watch: &Watch, instrument: &Instrument) -> Result<Option<State>, Re
         .store()
         .stretch(instrument.channel, from, &mut minutes)?;
     let present = minutes.iter().filter(|&&there| there != 0).count();
-    let apart = apart(&minutes);
+    let apart = apart(minutes.iter().map(|&there| there != 0));
     let gaps = gaps(from, minutes.iter().map(|&there| there != 0));
     Ok(Some(State {
         newest,
@@ -100,8 +100,9 @@ fn longer(gaps: &[Stretch], apart: u32) -> Vec<Stretch> {
     gaps.iter().filter(is_longer).copied().collect()
 }
 
-/// Gaps by their minutes, `826 to 900, 1003`: all of them, or the newest, and how many there are before.
-fn named(gaps: &[Stretch], all: bool) -> String {
+/// Gaps by their minutes, and times where they are known, `826 to 900 (13:46 to 15:00), 1003 (16:43)`: all of them, or the newest, and
+/// how many there are before.
+fn named(gaps: &[Stretch], all: bool, clock: &Clock) -> String {
     let shown = if all {
         gaps.len()
     } else {
@@ -116,35 +117,71 @@ fn named(gaps: &[Stretch], all: bool) -> String {
             counted(total(before), "minute")
         ));
     }
-    words.extend(shown.iter().map(|gap| match gap.last - gap.first {
-        0 => gap.first.to_string(),
-        _ => format!("{} to {}", gap.first, gap.last),
+    let stretch = |gap: &Stretch, of: &dyn Fn(u32) -> String| match gap.last - gap.first {
+        0 => of(gap.first),
+        _ => format!("{} to {}", of(gap.first), of(gap.last)),
+    };
+    words.extend(shown.iter().map(|gap| {
+        let minutes = stretch(gap, &|minute| minute.to_string());
+        match clock.time(gap.first) {
+            Some(_) => format!(
+                "{minutes} ({})",
+                stretch(gap, &|minute| clock.label(minute))
+            ),
+            None => minutes,
+        }
     }));
     words.join(", ")
 }
 
-/// As a person reads it.
-pub fn in_words(watch: &Watch, all_gaps: bool) -> Result<String, Refused> {
+/// Where the second column begins.
+const COLUMN: usize = 24;
+
+/// Words in lines of a width, from the second column on.
+fn wrapped(text: &str, width: usize) -> String {
+    let mut lines = vec![String::new()];
+    for word in text.split(' ') {
+        let last = lines.last().map_or(0, |line| line.width());
+        match lines.last_mut() {
+            Some(line) if line.is_empty() => line.push_str(word),
+            Some(line) if COLUMN + last + 1 + word.width() <= width => *line += &format!(" {word}"),
+            _ => lines.push(word.to_string()),
+        }
+    }
+    let lines: Vec<String> = lines
+        .iter()
+        .map(|line| format!("{:COLUMN$}{line}\n", ""))
+        .collect();
+    lines.concat()
+}
+
+/// As a person reads it, in lines of a width.
+pub fn in_words(watch: &Watch, all_gaps: bool, width: usize) -> Result<String, Refused> {
     let clock = watch.clock();
-    let mut text = format!("{} messages and entries came.\n", watch.count());
+    let [heard, refused] = watch.tally();
+    let mut text = format!(
+        "{} messages and entries came: {heard} heard, {refused} refused.\n",
+        watch.count()
+    );
     for instrument in &INSTRUMENTS {
         let Some(state) = state(watch, instrument)? else {
-            text += &format!("\n{:<24}nothing heard yet\n", instrument.title);
+            text += &format!("{:COLUMN$}nothing heard yet\n", instrument.title);
             continue;
         };
         let newest = state.newest;
-        text += &format!(
-            "\n{:<24}{} at {}\n",
-            instrument.title,
-            last(watch, instrument, newest),
-            clock.name(newest)
-        );
+        let behind = watch.newest_of_all().map_or(0, |last| last - newest);
+        let behind = match behind {
+            0 => String::new(),
+            _ => format!(", {} before the newest of all", counted(behind, "minute")),
+        };
+        let value = last(watch, instrument, newest);
+        let first = wrapped(&format!("{value} at {}{behind}", clock.name(newest)), width);
+        text += &format!("{:COLUMN$}{}", instrument.title, &first[COLUMN..]);
         let apart = state.apart.map_or(String::new(), |apart| {
-            format!(", most of them {apart} minutes apart")
+            format!(", most {apart} minutes apart")
         });
-        text += &format!(
-            "{:<24}{} of {} minutes kept, {} to {newest}{apart}\n",
-            "",
+        let mut more = format!(
+            "{} of {} minutes kept, {} to {newest}{apart}",
             state.present,
             newest - state.from + 1,
             state.from
@@ -154,10 +191,46 @@ pub fn in_words(watch: &Watch, all_gaps: bool) -> Result<String, Refused> {
             _ => ("no reading", state.gaps),
         };
         if !gaps.is_empty() {
-            text += &format!("{:<24}{what}: {}\n", "", named(&gaps, all_gaps));
+            more += &format!("; {what}: {}", named(&gaps, all_gaps, &clock));
         }
+        text += &wrapped(&more, width);
     }
     Ok(text)
+}
+
+/// A reading for programs: its text, and its figures with their units in the names.
+fn figures(reading: Reading) -> Value {
+    let mut object = json!({ "text": reading.to_string() });
+    match reading {
+        Reading::Barometer { tenths, unit } => {
+            let name = match unit {
+                Unit::Hectopascals => "pressure_hPa",
+                Unit::MillimetresOfMercury => "pressure_mmHg",
+            };
+            object[name] = json!(f64::from(tenths) / 10.0);
+        }
+        Reading::Wheelhouse(t) | Reading::DryBulb(t) => {
+            object["temperature_C"] = json!(t.celsius())
+        }
+        Reading::ApparentWind { speed, from_bow } => {
+            object["speed_m_s"] = json!(speed.metres_per_second());
+            object["from_bow_degrees"] = json!(from_bow.degrees());
+        }
+        Reading::ShipMotion { speed, course } => {
+            object["speed_knots"] = json!(speed.knots());
+            object["course_degrees"] = json!(course.degrees());
+        }
+        Reading::WetBulb { temperature, state } => {
+            object["temperature_C"] = json!(temperature.celsius());
+            object["state"] = json!(match state {
+                BulbState::Water => "water",
+                BulbState::Ice => "ice",
+                BulbState::Unknown => "unknown",
+            });
+        }
+        _ => {}
+    }
+    object
 }
 
 /// For programs.
@@ -165,12 +238,20 @@ pub fn for_programs(watch: &Watch) -> Result<Value, Refused> {
     let clock = watch.clock();
     let mut instruments = Vec::new();
     for instrument in &INSTRUMENTS {
-        let mut object =
-            json!({ "instrument": instrument.name, "channel": instrument.channel.number() });
+        let mut object = json!({
+            "instrument": instrument.name,
+            "channel": instrument.channel.number(),
+            "newest": null,
+            "time": null,
+            "last": null,
+            "kept_from": null,
+            "present": 0,
+            "gaps": [],
+        });
         if let Some(state) = state(watch, instrument)? {
             object["newest"] = json!(state.newest);
             object["time"] = time(&clock, state.newest);
-            object["last"] = json!(last(watch, instrument, state.newest));
+            object["last"] = figures(watch.store().reading(instrument.channel, state.newest)?);
             object["kept_from"] = json!(state.from);
             object["present"] = json!(state.present);
             object["gaps"] = state
@@ -181,7 +262,10 @@ pub fn for_programs(watch: &Watch) -> Result<Value, Refused> {
         }
         instruments.push(object);
     }
-    Ok(json!({ "messages_and_entries": watch.count(), "instruments": instruments }))
+    let [heard, refused] = watch.tally();
+    Ok(
+        json!({ "messages_and_entries": watch.count(), "heard": heard, "refused": refused, "instruments": instruments }),
+    )
 }
 
 #[cfg(test)]
@@ -190,11 +274,7 @@ mod tests {
 
     #[test]
     fn readings_are_apart_by_what_most_of_them_are() {
-        let at = |minutes: &[usize]| {
-            let mut there = [0; KEPT];
-            minutes.iter().for_each(|&minute| there[minute] = 1);
-            apart(&there)
-        };
+        let at = |minutes: &[u32]| apart((0..300).map(|minute| minutes.contains(&minute)));
         assert_eq!(at(&[0, 5, 10, 15, 17]), Some(5));
         assert_eq!(at(&[0, 1, 2, 9]), None);
         assert_eq!(at(&[0, 3, 10, 12]), None);
@@ -202,7 +282,7 @@ mod tests {
         assert_eq!(at(&[]), None);
         let gaps = gaps(0, [true, false, false, true, false, false, false, true]);
         assert_eq!(longer(&gaps, 3), [Stretch { first: 4, last: 6 }]);
-        assert_eq!(named(&gaps, true), "1 to 2, 4 to 6");
+        assert_eq!(named(&gaps, true, &Clock::default()), "1 to 2, 4 to 6");
     }
 
     #[test]

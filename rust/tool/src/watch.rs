@@ -11,9 +11,10 @@ use zhitomrak::{Channel, Refused, Settings, Store};
 use crate::fault::{cannot, fault, say, Result};
 use crate::files;
 use crate::journal::{self, Access, Journal, Sent};
-use crate::minutes::Clock;
+use crate::minutes::{Clock, Stretch};
 use crate::progress::Progress;
 use crate::sheet;
+use crate::status::KEPT;
 
 /// A watch that was opened.
 pub struct Watch {
@@ -25,6 +26,10 @@ pub struct Watch {
     open: bool,
     /// The settings of station.toml, for a journal whose own are damaged.
     spare: Option<Settings>,
+    /// Whether station.toml says another epoch than the watch was begun with.
+    differs: bool,
+    /// How many were heard, and how many refused.
+    tally: [u64; 2],
 }
 
 /// What is told of each line that was sent to a store, with what it came to.
@@ -38,7 +43,7 @@ pub const SHEET: &str = "station.toml";
 pub const JOURNAL: &str = "journal";
 
 /// Makes a watch of a folder that is not there yet, or empty: whole, or not at all.
-pub fn init(folder: &Path, settings: &Path) -> Result<()> {
+pub fn init(folder: &Path, settings: &Path) -> Result<sheet::Sheet> {
     let bytes = files::read(settings, 1 << 20)?;
     let text = String::from_utf8(bytes)
         .map_err(|_| fault!("{}: it is no text (UTF-8)", settings.display()))?;
@@ -51,6 +56,13 @@ pub fn init(folder: &Path, settings: &Path) -> Result<()> {
         }
     }
     let (parent, name) = files::parts(folder)?;
+    if !parent.is_dir() {
+        return Err(fault!(
+            "cannot make {}: there is no folder {}",
+            folder.display(),
+            parent.display()
+        ));
+    }
     let failed = || cannot("make", folder);
     let new = tempfile::Builder::new()
         .prefix(&format!(".{}.", name.to_string_lossy()))
@@ -63,13 +75,18 @@ pub fn init(folder: &Path, settings: &Path) -> Result<()> {
         file.sync_all()
     };
     put(SHEET, text.as_bytes()).map_err(failed())?;
-    put(JOURNAL, journal::head(&sheet.settings).as_bytes()).map_err(failed())?;
+    put(
+        JOURNAL,
+        journal::head(&sheet.settings, sheet.epoch).as_bytes(),
+    )
+    .map_err(failed())?;
     files::as_others(new.path(), 0o777).map_err(failed())?;
     files::sync_folder(new.path()).map_err(failed())?;
     fs::rename(new.path(), folder).map_err(failed())?;
     // it has its name now: nothing is left to be taken away
     let _ = new.into_path();
-    files::sync_folder(parent).map_err(failed())
+    files::sync_folder(parent).map_err(failed())?;
+    Ok(sheet)
 }
 
 /// Whether a folder is a watch; where not, that is told in words.
@@ -82,8 +99,12 @@ pub fn is_one(folder: &Path) -> Result<()> {
         .is_err_and(|error| error.kind() == std::io::ErrorKind::NotFound)
     {
         return Err(fault!(
-            "{} is no watch: it has no journal; `zhitomrak init` makes one",
-            folder.display()
+            "{} is no watch: {}",
+            folder.display(),
+            match folder.join(SHEET).exists() {
+                true => "its journal is missing",
+                false => "it has no journal; `zhitomrak init` begins one",
+            }
         ));
     }
     Ok(())
@@ -101,7 +122,8 @@ fn read_sheet(folder: &Path) -> Result<sheet::Sheet> {
 
 /// A watch's clock, for one who needs nothing else of it.
 pub fn clock(folder: &Path) -> Clock {
-    Clock::new(read_sheet(folder).ok().and_then(|sheet| sheet.epoch))
+    let later = || read_sheet(folder).ok().and_then(|sheet| sheet.epoch);
+    Clock::new(journal::epoch(&folder.join(JOURNAL)).or_else(later))
 }
 
 impl Watch {
@@ -115,6 +137,7 @@ impl Watch {
         let path = folder.join(JOURNAL);
         is_one(folder)?;
         let journal = Journal::open(&path, access)?;
+        journal::is_of_this_form(&path)?;
         let mut watch = Watch {
             folder: folder.to_path_buf(),
             store: Box::new(Store::from_words([0; Store::WORDS])),
@@ -122,11 +145,13 @@ impl Watch {
             clock: Clock::default(),
             open: false,
             spare: None,
+            differs: false,
+            tally: [0; 2],
         };
         watch.read_sheet();
         let length = fs::metadata(&path).map_err(cannot("read", &path))?.len();
         watch.go_on(
-            &[],
+            ("", &[]),
             access,
             each,
             &Progress::new("replays the journal", length),
@@ -137,40 +162,48 @@ impl Watch {
                 path.display()
             ));
         };
-        if watch.spare.is_some_and(|written| written != kept) {
+        if watch.differs || watch.spare.is_some_and(|written| written != kept) {
             let sheet = folder.join(SHEET);
             say!(
-                "{} has other settings than this watch was begun with, which it keeps; for new ones begin a new watch",
+                "{} says something else than this watch was begun with, which it keeps; for other settings begin a new watch",
                 sheet.display()
             );
         }
         Ok(watch)
     }
 
-    /// The settings of station.toml, and the epoch; where they cannot be read that is told, and minutes have no times.
+    /// The settings of station.toml; where they cannot be read that is told. The epoch is the journal's, or may come later.
     fn read_sheet(&mut self) {
+        let begun = journal::epoch(self.journal.path());
+        self.clock = Clock::new(begun);
         match read_sheet(&self.folder) {
             Ok(sheet) => {
-                self.clock = Clock::new(sheet.epoch);
                 self.spare = Some(sheet.settings);
+                self.clock = Clock::new(begun.or(sheet.epoch));
+                if begun.is_some() && begun != sheet.epoch {
+                    self.differs = true;
+                }
             }
-            Err(why) => say!("{why}\nzhitomrak: the watch keeps the settings it was begun with; minutes have no times"),
+            Err(why) => {
+                say!("{why}\nzhitomrak: the watch keeps the settings that it was begun with")
+            }
         }
     }
 
     /// Takes over what was written since, and with `Access::Write` writes the lines and then sends them.
     fn go_on(
         &mut self,
-        sent: &[Sent],
+        (remark, sent): (&str, &[Sent]),
         access: Access,
         each: Each,
         progress: &Progress,
     ) -> Result<()> {
-        let (store, journal, open, spare) = (
+        let (store, journal, open, spare, tally) = (
             &mut self.store,
             &mut self.journal,
             &mut self.open,
             self.spare,
+            &mut self.tally,
         );
         let mut to_store = |sent: &Sent| {
             // a second opening would take everything away, and no journal has one
@@ -189,12 +222,13 @@ impl Watch {
             }
             if !matches!(sent, Sent::Opening(_)) {
                 let came_to = sent.send(store);
+                tally[usize::from(came_to.is_err())] += 1;
                 each(store, sent, came_to);
             }
         };
         let done = match access {
             Access::Read => journal.look(&mut to_store, progress),
-            Access::Write => journal.append(sent, &mut to_store, progress),
+            Access::Write => journal.append(remark, sent, &mut to_store, progress),
         };
         for found in self.journal.take_found() {
             say!("{}", found.words(self.journal.path()));
@@ -205,9 +239,19 @@ impl Watch {
     /// Writes what came into the journal, and onto the disk; then the store hears it, behind what others have written since. What
     /// each came to.
     pub fn keep(&mut self, sent: &[Sent]) -> Result<Vec<Outcome>> {
+        self.keep_as("", sent)
+    }
+
+    /// The same for one that a person has entered.
+    pub fn enter(&mut self, sent: Sent) -> Result<Outcome> {
+        let came_to = self.keep_as(journal::BY_HAND, &[sent])?;
+        Ok(came_to.first().copied().unwrap_or(Ok(())))
+    }
+
+    fn keep_as(&mut self, remark: &str, sent: &[Sent]) -> Result<Vec<Outcome>> {
         let mut came_to = Vec::with_capacity(sent.len());
         self.go_on(
-            sent,
+            (remark, sent),
             Access::Write,
             &mut |_, _, told| came_to.push(told),
             &Progress::silent(),
@@ -216,15 +260,14 @@ impl Watch {
         Ok(came_to.split_off(came_to.len() - sent.len()))
     }
 
-    /// The same for a single one.
-    pub fn keep_one(&mut self, sent: impl IntoIterator<Item = Sent>) -> Result<Outcome> {
-        let sent: Vec<Sent> = sent.into_iter().take(1).collect();
-        Ok(self.keep(&sent)?.pop().unwrap_or(Ok(())))
-    }
-
     /// Takes over what others have written since.
     pub fn catch_up(&mut self) -> Result<()> {
-        self.go_on(&[], Access::Read, &mut |_, _, _| {}, &Progress::silent())
+        self.go_on(
+            ("", &[]),
+            Access::Read,
+            &mut |_, _, _| {},
+            &Progress::silent(),
+        )
     }
 
     pub fn folder(&self) -> &Path {
@@ -244,9 +287,23 @@ impl Watch {
         self.journal.count()
     }
 
+    /// How many of them were heard, and how many refused.
+    pub fn tally(&self) -> [u64; 2] {
+        self.tally
+    }
+
     /// The newest minute of a channel.
     pub fn newest(&self, channel: Channel) -> Option<u32> {
         self.store.newest(channel).ok().flatten()
+    }
+
+    /// The minutes that a channel could keep, by its number: its newest and those before it.
+    pub fn kept(&self, channel: u32) -> Option<Stretch> {
+        let newest = self.newest(Channel::numbered(channel)?)?;
+        Some(Stretch {
+            first: newest.saturating_sub(KEPT as u32 - 1),
+            last: newest,
+        })
     }
 
     /// The newest minute of all.

@@ -50,6 +50,8 @@ pub struct Panel {
     /// What the value axis includes at least; None: what the readings need, and at least 2 units,
     /// so that a level line looks level.
     pub at_least: Option<(f64, f64)>,
+    /// How many minutes most readings are apart: 1 where there is one each minute.
+    pub apart: usize,
 }
 
 /// A curve: one value, or none, for each minute of the picture.
@@ -87,11 +89,14 @@ impl Picture {
         format!("{} to {}", (self.full)(self.first), (self.full)(self.last))
     }
 
-    /// The stretches of minutes, counted from the first, in which no line of the panel has a value.
+    /// The stretches of minutes, counted from the first, in which no line of the panel has a value; but for those that stand between
+    /// readings which are as far apart as most are.
     fn gaps(&self, panel: &Panel) -> Vec<Range<usize>> {
-        stretches(self.minutes(), |offset| {
+        let mut gaps = stretches(self.minutes(), |offset| {
             panel.lines.iter().all(|line| line.at(offset).is_none())
-        })
+        });
+        gaps.retain(|gap| gap.len() >= panel.apart);
+        gaps
     }
 
     /// The arrows that point somewhere in the stretch shown, the newest first, with their offsets.

@@ -48,6 +48,7 @@ fn panel(name: &str, unit: &'static str, decimals: usize, lines: Vec<Line>) -> P
         lines,
         arrows: Vec::new(),
         at_least: None,
+        apart: 1,
     }
 }
 
@@ -584,6 +585,7 @@ impl Random {
         let lines = 1 + self.below(2);
         let arrows = self.below(40);
         Panel {
+            apart: 1,
             name: self.text(),
             unit: ["hPa", "%", "m/s", "°C", "mm Hg"][self.below(5) as usize],
             decimals: self.below(9) as usize,
