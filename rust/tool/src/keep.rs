@@ -1,8 +1,8 @@
 //! Keeping a watch: messages come in from a file or a device, are written to the journal, and are heard.
 
-use std::fs::{self, OpenOptions};
+use std::fs::{self, File, OpenOptions};
 use std::io::{self, IsTerminal, Read, Write};
-use std::os::fd::{AsRawFd, RawFd};
+use std::os::fd::{AsFd, AsRawFd};
 use std::os::unix::fs::{MetadataExt, OpenOptionsExt};
 use std::path::Path;
 use std::time::{Duration, Instant};
@@ -15,6 +15,7 @@ use zhitomrak::Refused;
 
 use crate::ended::{ended, in_order};
 use crate::fault::{cannot, counted, fault, say, words, Fault, Result, NOT_DONE};
+use crate::files;
 use crate::frames::{Cut, Frames};
 use crate::hand::instrument;
 use crate::journal::Sent;
@@ -142,8 +143,7 @@ fn told(watch: &Watch, bytes: &[u8], came_to: &Outcome) -> String {
 
 /// Where messages come from.
 struct Source {
-    file: Box<dyn Read>,
-    fd: RawFd,
+    file: File,
     /// How many bytes a file has; none of what comes as it comes.
     length: Option<u64>,
 }
@@ -160,19 +160,16 @@ const NOTHING: usize = 1024;
 impl Source {
     fn open(watch: &Watch, path: &Path) -> Result<Source> {
         if path.as_os_str() == "-" {
-            let stdin = io::stdin();
-            let fd = stdin.as_raw_fd();
-            raw(
-                fd,
-                stdin.is_terminal(),
-                "standard input",
-                "a file or a device",
-            )?;
-            return Ok(Source {
-                file: Box::new(stdin),
-                fd,
-                length: None,
-            });
+            let name = "standard input";
+            // without a buffer: what has come is asked of the system
+            let file = File::from(
+                io::stdin()
+                    .as_fd()
+                    .try_clone_to_owned()
+                    .map_err(cannot("read", Path::new(name)))?,
+            );
+            raw(&file, name, "name a file or a device")?;
+            return Ok(Source { file, length: None });
         }
         let there = fs::metadata(path).map_err(cannot("read", path))?;
         let name = path.display();
@@ -195,26 +192,25 @@ impl Source {
             .custom_flags(OFlag::O_NONBLOCK.bits())
             .open(path)
             .map_err(cannot("read", path))?;
-        let fd = file.as_raw_fd();
         raw(
-            fd,
-            file.is_terminal(),
+            &file,
             &name.to_string(),
-            &format!("`stty -F {name} raw 9600`"),
+            &format!("first `stty -F {name} raw 9600`"),
         )?;
         let length = there.is_file().then_some(there.len());
-        Ok(Source {
-            file: Box::new(file),
-            fd,
-            length,
-        })
+        if there.is_file() && begins_with_none(watch, path)? {
+            return Err(fault!(
+                "{name} begins with no message: is it the right file? (`cat FILE | zhitomrak keep FOLDER --from -` keeps anything)"
+            ));
+        }
+        Ok(Source { file, length })
     }
 
     /// Whether something has come within a pause, or the end; not so where it is to end.
     fn comes(&self, within: Duration) -> Result<bool> {
         let began = Instant::now();
         loop {
-            let mut fds = [PollFd::new(self.fd, PollFlags::POLLIN)];
+            let mut fds = [PollFd::new(self.file.as_raw_fd(), PollFlags::POLLIN)];
             match poll(&mut fds, TICK.as_millis() as i32) {
                 Ok(0) | Err(Errno::EINTR) => {}
                 Ok(_) => return Ok(true),
@@ -233,14 +229,22 @@ impl Source {
 }
 
 /// A terminal's line has to hand on bytes as they are, and at once.
-fn raw(fd: RawFd, terminal: bool, name: &str, instead: &str) -> Result<()> {
+fn raw(file: &File, name: &str, instead: &str) -> Result<()> {
     let cooked = |line: Termios| line.local_flags.contains(LocalFlags::ICANON);
-    if terminal && tcgetattr(fd).is_ok_and(cooked) {
+    if file.is_terminal() && tcgetattr(file.as_raw_fd()).is_ok_and(cooked) {
         return Err(fault!(
-            "{name} is a terminal whose line changes what comes: first {instead}"
+            "{name} is a terminal whose line changes what comes: {instead}"
         ));
     }
     Ok(())
+}
+
+/// Whether a file's first bytes, some hundred messages long, hold none at any place.
+fn begins_with_none(watch: &Watch, path: &Path) -> Result<bool> {
+    let settings = watch.store().settings().map_err(|why| fault!("{why}"))?;
+    let mut frames = Frames::new(&settings);
+    frames.push(&files::read(path, 4096)?);
+    Ok(frames.waiting() >= 16 && !frames.has_any())
 }
 
 /// What was kept so far.
@@ -323,12 +327,6 @@ fn hear(
             got => got.map_err(cannot("read", name))?,
         };
         frames.push(&bytes[..got]);
-        if source.length.is_some() && done == 0 && frames.waiting() >= 16 && !frames.has_any() {
-            return Err(fault!(
-                "{} begins with no message: is it the right file? (`cat FILE | zhitomrak keep FOLDER --from -` keeps anything)",
-                name.display()
-            ));
-        }
         done += got as u64;
         write(watch, frames.take(got == 0), manner, so)?;
         if !asked && done >= NOTHING as u64 && source.length.is_none() {

@@ -15,10 +15,16 @@ pub enum Unit {
 }
 
 /// The barometer's certificate: 2 to 16 points.
-pub type Certificate = Points<Point, { ffi::CERTIFICATE_MAX_POINTS }>;
+pub type Certificate = Points<Point, 16>;
 
 /// The hand anemometer's: 2 to 20 points, or none.
-pub type AnemometerCertificate = Points<AnemometerPoint, { ffi::ANEMOMETER_MAX_POINTS }>;
+pub type AnemometerCertificate = Points<AnemometerPoint, 20>;
+
+// The numbers are C's. (By their names, in the types, they stop rustc 1.95 at a closure that holds a part of some settings.)
+const _: () = assert!(
+    Certificate::MAX == ffi::CERTIFICATE_MAX_POINTS
+        && AnemometerCertificate::MAX == ffi::ANEMOMETER_MAX_POINTS
+);
 
 impl<P: Copy + Default, const ROOM: usize> Points<P, ROOM> {
     /// The most points that a certificate of this kind can have.
