@@ -158,6 +158,15 @@ fn dial(place: Place) -> Command {
         .after_help("dial 600 300 9940 80 60   at minute 600 from 300°, 60 s from 9940 past 9999 to 80\n\nThe ship's course of that minute has to be there.")
 }
 
+fn strike(place: Place) -> Command {
+    let instruments = PossibleValuesParser::new(INSTRUMENTS.map(|instrument| instrument.name));
+    on_watch(place, "strike", "Strikes a wrong reading out: the watch answers as if it had never come")
+        .arg(arg("INSTRUMENT", "Which instrument").value_parser(instruments))
+        .arg(arg("WHEN", WHEN))
+        .arg(flag("back", "Takes that back"))
+        .after_help("It stays in the journal. What was refused because of it, as the right reading of\nthat minute, is heard then.")
+}
+
 fn log(place: Place) -> Command {
     on_watch(place, "log", "Asks, and keeps the answer in the watch's log")
         .arg(questions())
@@ -347,6 +356,7 @@ pub fn all(place: Place) -> Command {
         .subcommand(plot(place))
         .subcommand(reading(place))
         .subcommand(dial(place))
+        .subcommand(strike(place))
         .subcommand(log(place))
         .subcommand(show(place))
         .subcommand(drop(place))

@@ -51,6 +51,11 @@ pub fn instrument(number: u32) -> Option<&'static Instrument> {
     INSTRUMENTS.get(number as usize)
 }
 
+/// The instrument that a person names.
+pub fn named(name: &str) -> Option<&'static Instrument> {
+    INSTRUMENTS.iter().find(|known| known.name == name)
+}
+
 /// The name of a channel's instrument in a table.
 pub fn title(channel: Channel) -> &'static str {
     INSTRUMENTS[channel.number() as usize].title
@@ -75,10 +80,7 @@ pub fn message(
     first: &str,
     second: Option<&str>,
 ) -> Result<(&'static Instrument, Message)> {
-    let instrument = INSTRUMENTS
-        .iter()
-        .find(|known| known.name == name)
-        .ok_or_else(|| unclear!("`{name}` is no instrument"))?;
+    let instrument = named(name).ok_or_else(|| unclear!("`{name}` is no instrument"))?;
     let shows = value(first)?;
     let degrees = || match second {
         Some(text) => value(text),

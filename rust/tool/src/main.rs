@@ -24,6 +24,7 @@ mod run;
 mod sheet;
 mod shell;
 mod status;
+mod struck;
 mod watch;
 mod why;
 

@@ -19,6 +19,7 @@ use crate::log::{self, Log, Put};
 use crate::minutes::{Clock, Stretch};
 use crate::sheet::{self, refusal};
 use crate::status;
+use crate::struck;
 use crate::watch::{self, Outcome, Watch};
 use crate::{picture, plot, shell, why};
 
@@ -125,6 +126,7 @@ pub fn run(name: &str, told: &ArgMatches, desk: &mut Desk, out: &mut dyn Write) 
         "plot" => draw(told, desk, out),
         "reading" => reading(told, desk, out),
         "dial" => dial(told, desk, out),
+        "strike" => strike(told, desk, out),
         "log" => put(told, desk, out),
         "show" => show(told, desk, out),
         "drop" => take_out(told, desk, out),
@@ -330,6 +332,38 @@ fn dial(told: &ArgMatches, desk: &mut Desk, out: &mut dyn Write) -> Result<Done>
     entered(out, watch, ("hand anemometer", minute), &kept, came_to)
 }
 
+fn strike(told: &ArgMatches, desk: &mut Desk, out: &mut dyn Write) -> Result<Done> {
+    let name = word(told, "INSTRUMENT");
+    let instrument = hand::named(name).ok_or_else(|| unclear!("`{name}` is no instrument"))?;
+    let watch = desk.watch(told, Access::Read)?;
+    let minute = watch
+        .clock()
+        .minute(word(told, "WHEN"), watch.newest_of_all())?;
+    let what = format!("{}, {}", watch.clock().name(minute), instrument.title);
+    let place = (instrument.channel.number(), minute);
+    let before = watch.store().reading(instrument.channel, minute);
+    if told.get_flag("back") {
+        if !watch.struck().contains(&place) {
+            return Err(fault!("{what}: nothing of it is struck out"));
+        }
+        struck::change(watch.folder(), |struck| {
+            let last = struck.iter().rposition(|&other| other == place);
+            last.map(|index| struck.remove(index));
+        })?;
+    } else {
+        let before =
+            before.map_err(|why| fault!("{what}: there is nothing to strike out: {why}"))?;
+        struck::change(watch.folder(), |struck| struck.push(place))?;
+        tell!(out, "{what}: struck out, {before}")?;
+    }
+    watch.catch_up()?;
+    match watch.store().reading(instrument.channel, minute) {
+        Ok(reading) => tell!(out, "{what}: kept, {reading}")?,
+        Err(_) => tell!(out, "{what}: nothing is kept")?,
+    }
+    Ok(Done::Well)
+}
+
 fn put(told: &ArgMatches, desk: &mut Desk, out: &mut dyn Write) -> Result<Done> {
     let (kinds, old) = (kinds(told)?, old(told));
     let watch = desk.watch(told, Access::Read)?;
@@ -449,7 +483,7 @@ fn own(path: &Path) -> Result<()> {
         return Err(unclear!("it is saved to a file, and - is none"));
     }
     let a_watch_s = parent.join(watch::JOURNAL).exists()
-        && (["station.toml", "journal", "torn", "history"].contains(&&*name)
+        && (["station.toml", "journal", "torn", "struck", "history"].contains(&&*name)
             || (name.starts_with("log-") && name.ends_with(".watch")));
     if a_watch_s {
         return Err(fault!(

@@ -159,8 +159,12 @@ fn wrapped(text: &str, width: usize) -> String {
 pub fn in_words(watch: &Watch, all_gaps: bool, width: usize) -> Result<String, Refused> {
     let clock = watch.clock();
     let [heard, refused] = watch.tally();
+    let struck = match watch.struck().len() {
+        0 => String::new(),
+        count => format!(", {count} struck out"),
+    };
     let mut text = format!(
-        "{} messages and entries came: {heard} heard, {refused} refused.\n",
+        "{} messages and entries came: {heard} heard, {refused} refused{struck}.\n",
         watch.count()
     );
     for instrument in &INSTRUMENTS {
@@ -264,7 +268,7 @@ pub fn for_programs(watch: &Watch) -> Result<Value, Refused> {
     }
     let [heard, refused] = watch.tally();
     Ok(
-        json!({ "messages_and_entries": watch.count(), "heard": heard, "refused": refused, "instruments": instruments }),
+        json!({ "messages_and_entries": watch.count(), "heard": heard, "refused": refused, "struck_out": watch.struck().len(), "instruments": instruments }),
     )
 }
 

@@ -15,6 +15,7 @@ use crate::minutes::{Clock, Stretch};
 use crate::progress::Progress;
 use crate::sheet;
 use crate::status::KEPT;
+use crate::struck::{self, Place, Struck};
 
 /// A watch that was opened.
 pub struct Watch {
@@ -30,6 +31,10 @@ pub struct Watch {
     differs: bool,
     /// How many were heard, and how many refused.
     tally: [u64; 2],
+    access: Access,
+    /// What is struck out, and what of it is still to come.
+    struck: Vec<Place>,
+    to_come: Struck,
 }
 
 /// What is told of each line that was sent to a store, with what it came to.
@@ -138,6 +143,7 @@ impl Watch {
         is_one(folder)?;
         let journal = Journal::open(&path, access)?;
         journal::is_of_this_form(&path)?;
+        let struck = struck::read(folder)?;
         let mut watch = Watch {
             folder: folder.to_path_buf(),
             store: Box::new(Store::from_words([0; Store::WORDS])),
@@ -147,6 +153,9 @@ impl Watch {
             spare: None,
             differs: false,
             tally: [0; 2],
+            access,
+            to_come: Struck::new(&struck),
+            struck,
         };
         watch.read_sheet();
         let length = fs::metadata(&path).map_err(cannot("read", &path))?.len();
@@ -198,13 +207,13 @@ impl Watch {
         each: Each,
         progress: &Progress,
     ) -> Result<()> {
-        let (store, journal, open, spare, tally) = (
+        let (store, journal, open, spare) = (
             &mut self.store,
             &mut self.journal,
             &mut self.open,
             self.spare,
-            &mut self.tally,
         );
+        let (tally, to_come) = (&mut self.tally, &mut self.to_come);
         let mut to_store = |sent: &Sent| {
             // a second opening would take everything away, and no journal has one
             if !*open {
@@ -220,7 +229,7 @@ impl Watch {
                     }
                 }
             }
-            if !matches!(sent, Sent::Opening(_)) {
+            if !matches!(sent, Sent::Opening(_)) && !to_come.takes(sent, store) {
                 let came_to = sent.send(store);
                 tally[usize::from(came_to.is_err())] += 1;
                 each(store, sent, came_to);
@@ -249,6 +258,7 @@ impl Watch {
     }
 
     fn keep_as(&mut self, remark: &str, sent: &[Sent]) -> Result<Vec<Outcome>> {
+        self.strike()?;
         let mut came_to = Vec::with_capacity(sent.len());
         self.go_on(
             (remark, sent),
@@ -256,12 +266,26 @@ impl Watch {
             &mut |_, _, told| came_to.push(told),
             &Progress::silent(),
         )?;
-        // those of others come first
-        Ok(came_to.split_off(came_to.len() - sent.len()))
+        // those of others come first; one that is struck out before it comes has come to nothing
+        Ok(came_to.split_off(came_to.len().saturating_sub(sent.len())))
+    }
+
+    /// Begins anew where something else is struck out than before.
+    fn strike(&mut self) -> Result<()> {
+        if struck::read(&self.folder)? != self.struck {
+            *self = Watch::open(&self.folder, self.access)?;
+        }
+        Ok(())
+    }
+
+    /// What is struck out.
+    pub fn struck(&self) -> &[Place] {
+        &self.struck
     }
 
     /// Takes over what others have written since.
     pub fn catch_up(&mut self) -> Result<()> {
+        self.strike()?;
         self.go_on(
             ("", &[]),
             Access::Read,
@@ -382,6 +406,57 @@ mod tests {
             least[1] * 1e3,
             kept.as_secs_f64()
         );
+    }
+
+    #[test]
+    fn what_is_struck_out_has_never_come() {
+        let folder = tempfile::tempdir().unwrap();
+        let (sheet, at, other) = (
+            folder.path().join("sheet"),
+            folder.path().join("watch"),
+            folder.path().join("other"),
+        );
+        fs::write(&sheet, STATION).unwrap();
+        init(&at, &sheet).unwrap();
+        init(&other, &sheet).unwrap();
+        let (mut watch, mut right) = (
+            Watch::open(&at, Access::Write).unwrap(),
+            Watch::open(&other, Access::Write).unwrap(),
+        );
+        let sent = |message: Message| Sent::message(message.as_bytes());
+        let wrong = sent(Message::barometer(700_000, 1040.2));
+        assert_eq!(watch.enter(wrong).unwrap(), Ok(()));
+        for minute in [300, 301] {
+            let reading = sent(Message::barometer(minute, 1004.2));
+            assert!(watch.enter(reading.clone()).unwrap().is_err());
+            assert_eq!(right.enter(reading).unwrap(), Ok(()));
+        }
+        let journal = fs::read(at.join(JOURNAL)).unwrap();
+        struck::change(&at, |struck| struck.push((0, 700_000))).unwrap();
+        // in a watch that is open, and in one that is opened then
+        watch.catch_up().unwrap();
+        assert!(watch.store() == right.store());
+        assert!(Watch::open(&at, Access::Read).unwrap().store() == right.store());
+        assert_eq!(fs::read(at.join(JOURNAL)).unwrap(), journal);
+        // two of one minute: the first is struck out, and the second then too
+        for value in [1040.3, 1004.3] {
+            let _ = watch.enter(sent(Message::barometer(302, value))).unwrap();
+        }
+        let kept = |watch: &Watch| {
+            watch
+                .store()
+                .reading(Channel::Barometer, 302)
+                .map(|reading| reading.to_string())
+        };
+        for wanted in [Ok("1040.3 hPa"), Ok("1004.3 hPa"), Err(())] {
+            assert_eq!(kept(&watch).as_deref().map_err(|_| ()), wanted);
+            struck::change(&at, |struck| struck.push((0, 302))).unwrap();
+            watch.catch_up().unwrap();
+        }
+        // and back
+        struck::change(&at, Vec::clear).unwrap();
+        watch.catch_up().unwrap();
+        assert_eq!(watch.newest(Channel::Barometer), Some(700_000));
     }
 
     #[test]
