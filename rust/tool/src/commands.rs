@@ -3,6 +3,7 @@
 
 use std::path::PathBuf;
 
+use chrono::{DateTime, Utc};
 use clap::builder::PossibleValuesParser;
 use clap::{Arg, ArgAction, Command};
 
@@ -217,6 +218,13 @@ fn list() -> Command {
         .about("Lists a watch file")
         .arg(file("FILE", "The watch file, or - for standard input"))
         .args(forms())
+        .arg(
+            Arg::new("epoch")
+                .long("epoch")
+                .value_name("TIME")
+                .value_parser(clap::value_parser!(DateTime<Utc>))
+                .help("When minute 0 was, as 2026-11-16T00:00:00Z: records are then shown with their times"),
+        )
 }
 
 fn plot(place: Place) -> Command {

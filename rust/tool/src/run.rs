@@ -3,6 +3,7 @@
 use std::io::{self, IsTerminal, Read, Write};
 use std::path::{Path, PathBuf};
 
+use chrono::{DateTime, Utc};
 use clap::ArgMatches;
 use serde_json::json;
 use zhitomrak::watchfile::{self, Record, WatchFile, LISTING_MAX_BYTES, MAX_BYTES};
@@ -575,7 +576,10 @@ fn list(told: &ArgMatches, out: &mut dyn Write) -> Result<Done> {
     };
     let form = form(told);
     match (WatchFile::from_bytes(&bytes), form) {
-        (Ok(file), _) => records(&file, form, &Clock::default(), out).map(|()| Done::Well),
+        (Ok(file), _) => {
+            let epoch = told.get_one::<DateTime<Utc>>("epoch").copied();
+            records(&file, form, &Clock::new(epoch), out).map(|()| Done::Well)
+        }
         (Err(_), Form::Raw) => {
             let mut room = [0; LISTING_MAX_BYTES];
             let text = watchfile::list(&bytes, &mut room).map_err(|why| fault!("{why}"))?;
