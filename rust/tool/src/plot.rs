@@ -171,10 +171,7 @@ fn drawing(
         let there = |at: usize| lines.iter().any(|line| line.values[at].is_some());
         let apart = apart((0..lines[0].values.len()).map(there));
         Panel {
-            name: match apart {
-                Some(apart) => format!("{name}, most {apart} minutes apart"),
-                None => name.to_string(),
-            },
+            name: name.to_string(),
             unit,
             decimals,
             lines,

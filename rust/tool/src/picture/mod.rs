@@ -138,6 +138,13 @@ impl Picture {
     }
 }
 
+impl Panel {
+    /// How far most readings are apart, where that is more than a minute.
+    fn spacing(&self) -> Option<String> {
+        (self.apart > 1).then(|| format!("most readings {} minutes apart", self.apart))
+    }
+}
+
 impl Line {
     /// The value at a minute, counted from the picture's first.
     fn at(&self, offset: usize) -> Option<f64> {

@@ -367,23 +367,26 @@ impl<'a> Chart<'a> {
         ]
     }
 
-    /// The name with its unit, the legend of two curves, and at the right the number of gaps that
-    /// are too narrow for a band.
+    /// The name with its unit, the legend of two curves, and at the right how far readings are apart
+    /// and the number of gaps that are too narrow for a band.
     fn title(&self, sheet: &Sheet) -> Drawn {
         let y = self.heading + 9.0;
         let name = format!("{}, {}", self.panel.name, self.panel.unit);
         let name = cut(&name, 13.0, WIDTH / 3.0);
         sheet.text(&name, (EDGE, y), &letters(13.0).bold())?;
         self.legend(sheet, (EDGE + 1.1 * width_of(&name, 13.0) + 24.0, y))?;
+        let mut notes = Vec::from_iter(self.panel.spacing());
         let narrow = self.gaps().1;
-        if narrow.is_empty() {
+        if !narrow.is_empty() {
+            let gaps = counted(narrow.len(), "gap");
+            let minutes = counted(minutes_in(&narrow), "minute");
+            notes.push(format!("{gaps} too narrow to name, {minutes} in all"));
+        }
+        if notes.is_empty() {
             return Ok(());
         }
-        let gaps = counted(narrow.len(), "gap");
-        let minutes = counted(minutes_in(&narrow), "minute");
-        let note = format!("{gaps} too narrow to name, {minutes} in all");
         sheet.text(
-            &note,
+            &notes.join("; "),
             (self.across.right, y),
             &letters(11.0).faint().ending(),
         )

@@ -153,7 +153,13 @@ impl<'a> Sheet<'a> {
 
     /// The name and the unit, and which curve is which where there are two.
     fn heading(&self, panel: &Panel, crossed: bool) -> String {
-        let mut text = plain(&format!("{}, {}", panel.name, panel.unit), self.ink);
+        let spacing = panel
+            .spacing()
+            .map_or(String::new(), |far| format!(", {far}"));
+        let mut text = plain(
+            &format!("{}, {}{spacing}", panel.name, panel.unit),
+            self.ink,
+        );
         if let [first, second, ..] = panel.lines.as_slice() {
             let (first, second) = (plain(&first.name, self.ink), plain(&second.name, self.ink));
             text.push_str(&format!(
