@@ -4,7 +4,7 @@
 //! `#= SUM COUNT`: the CRC-32 of the group's bytes, and how many messages and entries there are up to it. A group is written, sum and
 //! all, and is on the disk before anything in it is heard or acknowledged.
 //!
-//! What stands behind the last sum was never acknowledged. Whole lines of it are kept all the same; a line that is cut is set aside
+//! What stands behind the last sum was not acknowledged, unless its sum was lost. Whole lines of it are kept all the same; a line that is cut is set aside
 //! by the next one who writes. A group whose sum is not that of its bytes is damaged: nothing of it is heard, so its minutes are
 //! missing and said to be.
 

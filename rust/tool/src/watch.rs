@@ -1,6 +1,6 @@
-//! A watch: a folder with `station.toml`, the settings as the person wrote them, `journal`, all that came since, and the sheets of the
-//! log. The journal says everything: started again, the tool sends it to an empty store, and that store answers as if it had never
-//! stopped, since answers rest on what was sent and on nothing else (demand 3).
+//! A watch: a folder with `station.toml`, the settings as the person wrote them, `journal`, all that came since, `struck`, what of that
+//! is passed over, and the sheets of the log. Started again, the tool sends the journal to an empty store, and that store answers as if
+//! it had never stopped, since answers rest on what was sent and on nothing else (demand 3).
 
 use std::fs;
 use std::io::Write;
@@ -229,11 +229,16 @@ impl Watch {
                     }
                 }
             }
-            if !matches!(sent, Sent::Opening(_)) && !to_come.takes(sent, store) {
-                let came_to = sent.send(store);
-                tally[usize::from(came_to.is_err())] += 1;
-                each(store, sent, came_to);
+            if matches!(sent, Sent::Opening(_)) {
+                return;
             }
+            if to_come.takes(sent, store) {
+                // its minute counts as one that was there
+                return each(store, sent, Err(Refused::Repeated));
+            }
+            let came_to = sent.send(store);
+            tally[usize::from(came_to.is_err())] += 1;
+            each(store, sent, came_to);
         };
         let done = match access {
             Access::Read => journal.look(&mut to_store, progress),
@@ -266,8 +271,8 @@ impl Watch {
             &mut |_, _, told| came_to.push(told),
             &Progress::silent(),
         )?;
-        // those of others come first; one that is struck out before it comes has come to nothing
-        Ok(came_to.split_off(came_to.len().saturating_sub(sent.len())))
+        // those of others come first
+        Ok(came_to.split_off(came_to.len() - sent.len()))
     }
 
     /// Begins anew where something else is struck out than before.
