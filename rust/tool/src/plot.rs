@@ -110,7 +110,7 @@ impl Minutes {
 }
 
 /// The picture of a subject: over a stretch, or over what is kept.
-pub fn picture(folder: &Path, subject: &str, when: Option<&str>) -> Result<(Picture, Watch)> {
+pub fn picture(folder: &Path, subject: &str, when: Option<&str>) -> Result<Picture> {
     let &(_, channels) = SUBJECTS
         .iter()
         .find(|(name, _)| *name == subject)
@@ -140,7 +140,7 @@ pub fn picture(folder: &Path, subject: &str, when: Option<&str>) -> Result<(Pict
         .unwrap_or(folder.as_os_str())
         .to_string_lossy()
         .into_owned();
-    Ok((drawing(&name, subject, unit, stretch, &of, clock), watch))
+    Ok(drawing(&name, subject, unit, stretch, &of, clock))
 }
 
 /// The panels of a subject over a stretch, of the watch of a name.

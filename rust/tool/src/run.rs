@@ -619,7 +619,7 @@ fn unicode() -> bool {
 
 fn draw(told: &ArgMatches, desk: &mut Desk, out: &mut dyn Write) -> Result<Done> {
     let when = told.get_one::<String>("WHEN").map(String::as_str);
-    let (picture, _) = plot::picture(&desk.folder(told)?, word(told, "SUBJECT"), when)?;
+    let picture = plot::picture(&desk.folder(told)?, word(told, "SUBJECT"), when)?;
     let Some(to) = told.get_one::<PathBuf>("output").cloned() else {
         let size = io::stdout()
             .is_terminal()
