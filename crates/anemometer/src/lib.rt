@@ -1,5 +1,7 @@
 // The hand anemometer: from two readings of its dial and the seconds between them to a speed, and from a compass direction to one from
 // the bow.
+#![tactic(auto)]
+
 ghost use Rattle.std.specs.Prelude.{◌≡◌, ◌≤◌};
 ghost use Rattle.anemometer.specs.Anemometer.{turns, dial_holds, from_bow, certificate_held, measured, measured_as};
 
@@ -11,7 +13,7 @@ use quantity::{Degrees, MetresPerSecond};
 // What the mate notes: the minute, the compass direction of the wind in whole degrees, two readings of the dial and the seconds between
 // them. Right or wrong.
 #[repr(C)]
-#[derive(Drop)]
+#[derive(Clone, Copy)]
 pub struct Note {
     pub minute: u32,
     pub direction: u32,
@@ -21,7 +23,7 @@ pub struct Note {
 }
 
 // What the dial tells.
-#[derive(Drop)]
+#[derive(Clone, Copy)]
 pub enum Measured {
     Speed(MetresPerSecond),
     // 23: the seconds, or a reading of the dial, lie outside their limits

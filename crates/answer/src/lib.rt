@@ -1,5 +1,7 @@
 // The station's answers as lines of text in a lent buffer. Each function puts one line at a place and gives the place behind it;
 // what would lie beyond the buffer's end is cut off.
+#![tactic(auto)]
+
 ghost use Rattle.std.specs.Prelude.{[], ◌∷◌, ◌++◌, ◌≤◌, length};
 ghost use Rattle.station.specs.Told.{refusal_of};
 ghost use Rattle.station.specs.declared.PressureAnswer.TheVariants as pressure;

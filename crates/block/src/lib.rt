@@ -1,5 +1,7 @@
 // The lent block: the mark of a store and its settings, laid into it and read back, and behind them a window for each of six channels,
 // side by side.
+#![tactic(auto)]
+
 ghost use Rattle.std.specs.Prelude.{◌≡◌, ◌<◌, length};
 ghost use Rattle.settings.specs.Settings.{point_at, rate_point_at};
 ghost use Rattle.block.specs.Layout.{SETTINGS};

@@ -2,6 +2,8 @@
 // sentences. It is a second object of the static library, so that `zhitomrak` beside it is compiled as if it were alone.
 // Any block, bytes, numbers and room get an answer. Two numbers are none of the documents': 255, the block was never opened; 254, there is
 // no such record to take out.
+#![tactic(auto)]
+
 ghost use Rattle.std.specs.Prelude.{◌≡◌, ℕ, ℤ};
 ghost use Rattle.text.specs.Text.{Put};
 ghost use Rattle.spoken.specs.Refusals.{refusal_text};

@@ -1,4 +1,6 @@
 // A cell: a reading as one word of a window, and back.
+#![tactic(auto)]
+
 ghost use Rattle.std.specs.Prelude.{◌≡◌, cond, ℕ, ◌+◌, ◌*◌, ◌%◌, ◌^◌, ◌<◌};
 ghost use Rattle.message.specs.Receive.{entry_of};
 ghost use Rattle.cell.specs.Cells.{biased, unbiased, cell_of, recalled_as, cell_says, read_in};
@@ -13,7 +15,7 @@ use quantity::{
 pub const CHANNELS: usize = 6;
 
 // What is kept of a channel's minute.
-#[derive(Drop)]
+#[derive(Clone, Copy)]
 pub enum Recalled {
     Missing,
     Kept(Reading),

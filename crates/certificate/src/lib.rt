@@ -1,4 +1,6 @@
 // A certificate's points, and the straight line between two that stand side by side.
+#![tactic(auto)]
+
 ghost use Rattle.std.specs.Prelude.{◌≡◌, true, ◌≤◌, ◌^◌, nat_abs, ◌*ℤ◌, length};
 ghost use Rattle.std.specs.Int.Signed.{le_z};
 ghost use Rattle.number.specs.Whole.{Is};
@@ -8,14 +10,14 @@ ghost use Rattle.certificate.specs.Stored.{Stored};
 use number::Number;
 
 // A point of a certificate as a corner of its line: what the instrument reads there, and what that gives.
-#[derive(Drop)]
+#[derive(Clone, Copy)]
 pub struct Corner {
     pub reads: Number,
     pub gives: Number,
 }
 
 // What a certificate gives.
-#[derive(Drop)]
+#[derive(Clone, Copy)]
 pub enum Valued {
     Value(Number),
     // no two neighbouring points stand round it

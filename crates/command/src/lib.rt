@@ -1,5 +1,7 @@
 // The commands of the console: from a line of text, without its line end, to a verb and numbers. What the words behind a verb's name
 // are is told by a form, and one interpreter reads all forms. Nothing here asks the station.
+#![tactic(auto)]
+
 ghost use Rattle.std.specs.Prelude.{◌≡◌, [], ◌∷◌, ◌≤◌, ◌<◌, length};
 ghost use Rattle.text.specs.Text.{Put};
 ghost use Rattle.line.specs.Words.{words, word_at, words_at, field, fields, fields_at};
@@ -12,7 +14,7 @@ use line::{Part, Said, field_end, next_word, same, signed, whole};
 use values::ANEMOMETER;
 
 // What a command does.
-#[derive(Drop)]
+#[derive(Clone, Copy)]
 pub enum Verb {
     Open,
     Hear,
@@ -26,14 +28,14 @@ pub enum Verb {
 }
 
 // Where a word stands in a line: its first byte, and the place behind its last.
-#[derive(Drop)]
+#[derive(Clone, Copy)]
 pub struct Place {
     pub from: usize,
     pub to: usize,
 }
 
 // What is wrong with a line: the first fault from the left.
-#[derive(Drop)]
+#[derive(Clone, Copy)]
 pub enum Fault {
     // the first word is no command
     NotACommand(Place),
@@ -45,7 +47,7 @@ pub enum Fault {
     Misshapen(Place),
 }
 
-#[derive(Drop)]
+#[derive(Clone, Copy)]
 pub enum Command {
     // no words, or a remark
     Nothing,
@@ -58,7 +60,7 @@ pub enum Command {
 pub const NUMBERS: usize = 337;
 
 // What is wrong within a word.
-#[derive(Drop)]
+#[derive(Clone, Copy)]
 enum Flaw {
     NoFlaw,
     NotSuch(u8),
@@ -67,7 +69,7 @@ enum Flaw {
 }
 
 // The place behind the numbers that a word says, and what is wrong with it.
-#[derive(Drop)]
+#[derive(Clone, Copy)]
 struct Laid {
     behind: usize,
     flaw: Flaw,

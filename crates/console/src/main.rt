@@ -1,5 +1,7 @@
 // The station at a prompt: one command a line from standard input, one answer a line to standard output. Text becomes a command in
 // `command` and an answer text in `answer`; here is what reads, calls and writes.
+#![tactic(auto)]
+
 use anemometer::Note;
 use block::Store;
 use command::{Command, Verb};

@@ -1,4 +1,6 @@
 // The watch officer's desk: messages heard and counted, and answers as records.
+#![tactic(auto)]
+
 ghost use Rattle.std.specs.Prelude.{◌≡◌, ◌+◌, ◌-◌, ◌^◌, min};
 ghost use Rattle.desk.specs.Entries.{pressure_entry, tendency_entry, wind_entry, humidity_entry};
 ghost use Rattle.desk.specs.Counting.{messages, HearsAll};
@@ -17,7 +19,7 @@ pub const NUMBERS: usize = 256;
 const MESSAGE: usize = 16;
 
 // How many messages were heard, in place 0, and how many were refused by each number.
-#[derive(Drop)]
+#[derive(Clone, Copy)]
 pub struct Counts {
     pub of: [u64; NUMBERS],
 }
@@ -51,7 +53,7 @@ pub fn hear_all(store: &mut Store, bytes: &[u8], before: Counts) -> Counts
 // ---- answers as records
 
 // The entry that an answer makes in a watch file.
-#[derive(Drop)]
+#[derive(Clone, Copy)]
 pub enum Entry {
     Record(Record),
     // The answer was a refusal, or a figure does not fit its field.

@@ -1,4 +1,6 @@
 // Answers entered as records: asked of a store, and laid into lent words as a watch file takes them.
+#![tactic(auto)]
+
 ghost use Rattle.std.specs.Prelude.{◌≡◌};
 ghost use Rattle.station.specs.Questions as asked;
 ghost use Rattle.entered.specs.Entered.{refusal_beside, words_for, RecordedAs, RecordedBy};

@@ -1,5 +1,7 @@
 // Works the figures of document 01 ("Figures on both sides"), as document 02 has changed them, in the compiled program: those that are
 // proved, in the order of their table, then those that are only run. Pressures in tenths of hPa, and so on, as in the table.
+#![tactic(auto)]
+
 use block::Store;
 use humidity::Moisture;
 use libc::STDOUT_FILENO;

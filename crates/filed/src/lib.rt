@@ -1,4 +1,6 @@
 // Watch files as C sees them: what reading, writing and listing one come to.
+#![tactic(auto)]
+
 ghost use Rattle.std.specs.Prelude.{◌≡◌};
 ghost use Rattle.reader.specs.Read.{verdict_as};
 ghost use Rattle.writer.specs.Write.{written_as};
@@ -7,13 +9,13 @@ ghost use Rattle.watchlog.specs.Placing.{placed_as};
 ghost use Rattle.filed.specs.Files.{file_in, write_in, place_in, list_in};
 
 use listing::Listed;
-use watchlog::{NO_RECORD, Placed};
 use reader::Verdict;
+use watchlog::{NO_RECORD, Placed};
 use writer::Written;
 
 // A file that was read: 0 and how many records, or 18 and the place.
 #[repr(C)]
-#[derive(Drop)]
+#[derive(Clone, Copy)]
 pub struct FileTold {
     pub number: u32,
     pub place: usize,
@@ -22,7 +24,7 @@ pub struct FileTold {
 
 // A write: 0 and the bytes of the file, 16 and the index, or 17 and the bytes needed.
 #[repr(C)]
-#[derive(Drop)]
+#[derive(Clone, Copy)]
 pub struct WriteTold {
     pub number: u32,
     pub index: usize,
@@ -32,7 +34,7 @@ pub struct WriteTold {
 // A record put in its place, or taken out: 0 and the bytes of the new file, 16 and the index, 17 and the bytes needed, 18 and the place
 // where the old file is broken, or that there is no such record.
 #[repr(C)]
-#[derive(Drop)]
+#[derive(Clone, Copy)]
 pub struct PlaceTold {
     pub number: u32,
     pub index: usize,
@@ -42,7 +44,7 @@ pub struct PlaceTold {
 
 // A listing: 0 and the bytes of the text, or 17 and the bytes needed.
 #[repr(C)]
-#[derive(Drop)]
+#[derive(Clone, Copy)]
 pub struct ListTold {
     pub number: u32,
     pub bytes: usize,

@@ -1,10 +1,12 @@
 // A watch with a gap: barometer and thermometer at minutes 100 and 280 only, then at 400.
+#![tactic(auto)]
+
 ghost use Rattle.std.specs.Prelude.{◌≡◌, not, [], ℕ};
 ghost use Rattle.settings.specs.Settings.{checked_as};
 ghost use Rattle.store.specs.Block.{is_given, heard_as, recall_of};
 ghost use Rattle.cell.specs.Cells.{recalled_as, is_present};
 ghost use Rattle.store.specs.History.{Remembers};
-ghost use Rattle.gap.specs.Watch.{ship, to-100, to-280, to-400, pressure_in, temperature_in};
+ghost use Rattle.gap.specs.Watch.{ship, to_100, to_280, to_400, pressure_in, temperature_in};
 
 use block::Store;
 use cell::Recalled;
@@ -166,7 +168,7 @@ fn open(store: &mut Store)
 // Hears both instruments at minute 100: 1013.2 hPa and 12.5 °C.
 fn hear_at_100(store: &mut Store)
     requires { Remembers store.old ship [] }
-    ensures { Remembers store.new ship to-100 }
+    ensures { Remembers store.new ship to_100 }
 {
     let barometer: [u8; 16] = [0, 0, 0, 0, 100, 0, 0, 0, 205, 76, 125, 68, 0, 0, 0, 0];
     let thermometer: [u8; 16] = [1, 0, 0, 0, 100, 0, 0, 0, 0, 0, 72, 65, 0, 0, 0, 0];
@@ -176,8 +178,8 @@ fn hear_at_100(store: &mut Store)
 
 // And at minute 280: 1009.7 hPa and 13.0 °C.
 fn hear_at_280(store: &mut Store)
-    requires { Remembers store.old ship to-100 }
-    ensures { Remembers store.new ship to-280 }
+    requires { Remembers store.old ship to_100 }
+    ensures { Remembers store.new ship to_280 }
 {
     let barometer: [u8; 16] = [0, 0, 0, 0, 24, 1, 0, 0, 205, 108, 124, 68, 0, 0, 0, 0];
     let thermometer: [u8; 16] = [1, 0, 0, 0, 24, 1, 0, 0, 0, 0, 80, 65, 0, 0, 0, 0];
@@ -187,8 +189,8 @@ fn hear_at_280(store: &mut Store)
 
 // And at minute 400: 1008.4 hPa and 13.5 °C.
 fn hear_at_400(store: &mut Store)
-    requires { Remembers store.old ship to-280 }
-    ensures { Remembers store.new ship to-400 }
+    requires { Remembers store.old ship to_280 }
+    ensures { Remembers store.new ship to_400 }
 {
     let barometer: [u8; 16] = [0, 0, 0, 0, 144, 1, 0, 0, 154, 25, 124, 68, 0, 0, 0, 0];
     let thermometer: [u8; 16] = [1, 0, 0, 0, 144, 1, 0, 0, 0, 0, 88, 65, 0, 0, 0, 0];
@@ -198,7 +200,7 @@ fn hear_at_400(store: &mut Store)
 
 // At minute 280 both minutes heard are kept, and all 179 between them are absent.
 fn ask_at_280(store: &Store)
-    requires { Remembers store.now ship to-280 }
+    requires { Remembers store.now ship to_280 }
 {
     check::expect(store::missing_minutes(store, 0, 280) == 179);
     check::expect(store::missing_minutes(store, 1, 280) == 179);
@@ -210,7 +212,7 @@ fn ask_at_280(store: &Store)
 
 // At minute 400 minute 220 is absent, minute 280 is still kept, and minute 100 is gone.
 fn ask_at_400(store: &Store)
-    requires { Remembers store.now ship to-400 }
+    requires { Remembers store.now ship to_400 }
 {
     check::expect(is_missing_at(store, 0, 220));
     check::expect(is_missing_at(store, 1, 220));

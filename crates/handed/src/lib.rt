@@ -1,5 +1,7 @@
 // Records as they are handed over: a kind, a minute and five figures, seven words of 32 bits each. A kind that is none, and a figure that
 // does not fit its bytes, make a record that breaks the file rules.
+#![tactic(auto)]
+
 ghost use Rattle.std.specs.Prelude.{◌≡◌, true, ◌≤◌, nat_abs, length};
 ghost use Rattle.handed.specs.Handed.{half, octet, pressure_body, tendency_body, wind_body, humidity_body, body_of, record_of};
 ghost use Rattle.handed.specs.Words.{AreWords, figures_in, record_at, records_in};

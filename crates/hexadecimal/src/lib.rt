@@ -1,10 +1,12 @@
 // Bytes in hex, both directions: two digits a byte.
+#![tactic(auto)]
+
 ghost use Rattle.std.specs.Prelude.{◌≡◌, ◌<◌};
 ghost use Rattle.text.specs.Text.{Put};
 ghost use Rattle.hexadecimal.specs.Hex.{hex_value, is_hex, Unhexes, digit16, hex};
 
 // What a word in hex comes to.
-#[derive(Drop)]
+#[derive(Clone, Copy)]
 pub enum Unhexed {
     // how many bytes
     Bytes(usize),

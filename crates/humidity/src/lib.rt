@@ -1,5 +1,7 @@
 // Humidity by the psychrometer: vapour pressure by what is on the wick, saturation, deficit, relative humidity and dew point; refusals
 // 7, 13, 20, 21, 22 and 15.
+#![tactic(auto)]
+
 ghost use Rattle.std.specs.Prelude.{◌≡◌, true, ◌&&◌, ◌≤◌, pos, nat_abs};
 ghost use Rattle.number.specs.Whole.{Is};
 ghost use Rattle.quantity.specs.Limits.{inside, bulb, recorded_pressure};
@@ -15,7 +17,7 @@ use settings::PsychrometerCoefficient;
 use vapour::{Dew, DewTemperature, OverIce, Saturations, VapourPressure};
 
 // The figures of the air at both bulbs. Relative humidity is in %.
-#[derive(Drop)]
+#[derive(Clone, Copy)]
 pub struct HumidityFigures {
     pub e: VapourPressure,
     pub saturation: VapourPressure,
@@ -25,7 +27,7 @@ pub struct HumidityFigures {
 }
 
 // What both bulbs come to.
-#[derive(Drop)]
+#[derive(Clone, Copy)]
 pub enum Moisture {
     Given(HumidityFigures),
     // 13
@@ -43,7 +45,7 @@ pub enum Moisture {
 }
 
 // What the wet bulb comes to: e, rounded, or why there is none.
-#[derive(Drop)]
+#[derive(Clone, Copy)]
 enum Vapour {
     Worked(Number),
     // 13

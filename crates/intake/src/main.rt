@@ -1,5 +1,7 @@
 // Reads messages from standard input, 16 bytes each, and writes a line for each: channel, minute, values in tenths or whole degrees
 // and the wet bulb's state, or the refusal. The unit of the barometer is the first argument, hPa or mmHg.
+#![tactic(auto)]
+
 use libc::STDOUT_FILENO;
 use message::{Reading, Received};
 use number::Number;
@@ -7,7 +9,7 @@ use quantity::BarometerUnit;
 use wire::MessageRefusal;
 
 // The unit that the first argument names.
-#[derive(Drop)]
+#[derive(Clone, Copy)]
 enum Named {
     Unit(BarometerUnit),
     None,

@@ -1,5 +1,7 @@
 // What a store keeps, asked by channel: its newest minute, the reading of a minute, and which minutes of a stretch are there. Asking
 // changes nothing.
+#![tactic(auto)]
+
 ghost use Rattle.std.specs.Prelude.{◌≡◌, ℕ, ◌^◌, ◌<◌, nat_abs};
 ghost use Rattle.message.specs.Receive.{entry_of};
 ghost use Rattle.cell.specs.Cells.{recalled};
@@ -15,7 +17,7 @@ use told::Refusal;
 
 // The newest minute of a channel, or the number of the refusal.
 #[repr(C)]
-#[derive(Drop)]
+#[derive(Clone, Copy)]
 pub struct NewestTold {
     pub number: u32,
     pub minute: u64,
@@ -24,7 +26,7 @@ pub struct NewestTold {
 // A reading as it is kept: the number of its unit (0 hPa, 1 mm Hg, 2 °C, 3 m/s, 4 knots), tenths of that, and beside them whole degrees
 // or the state of the wick. All is 0 beside a refusal.
 #[repr(C)]
-#[derive(Drop)]
+#[derive(Clone, Copy)]
 pub struct ReadingTold {
     pub refusal: Refusal,
     pub channel: u32,

@@ -1,18 +1,20 @@
 // A line of text, without its line end: its words, the fields of a word, and the numbers that they say.
+#![tactic(auto)]
+
 ghost use Rattle.std.specs.Prelude.{◌≡◌, ◌+◌};
 ghost use Rattle.line.specs.Words.{blank, same, words, word_number, field_end};
 ghost use Rattle.line.specs.Numeral.{minus, natural, up_to, whole, signed};
 ghost use Rattle.line.specs.Next.{Start, WordEnd, NextWord};
 
 // A part of a line: its first byte, and the place behind its last.
-#[derive(Drop)]
+#[derive(Clone, Copy)]
 pub enum Part {
     Between(usize, usize),
     End,
 }
 
 // The number that a text says.
-#[derive(Drop)]
+#[derive(Clone, Copy)]
 pub enum Said {
     Number(u64),
     NoNumber,

@@ -1,4 +1,6 @@
 // Lists one watch file from standard input: a line for the file and one for each record, or the place where it is broken.
+#![tactic(auto)]
+
 use libc::STDOUT_FILENO;
 use listing::Listed;
 

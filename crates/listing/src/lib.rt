@@ -1,4 +1,6 @@
 // The listing of a watch file: its text in a lent buffer.
+#![tactic(auto)]
+
 ghost use Rattle.std.specs.Prelude.{◌≡◌, [], ◌∷◌, ◌++◌, ℕ, ◌≤◌, ℤ, length};
 ghost use Rattle.text.specs.Text.{field_of, Put};
 ghost use Rattle.listing.specs.Listing.{head_line, refused_line, listing_of, Lists};
@@ -10,7 +12,7 @@ use reader::Verdict;
 use watchfile::{Figures, RECORDS};
 
 // What listing came to.
-#[derive(Drop)]
+#[derive(Clone, Copy)]
 pub enum Listed {
     // the bytes of the text
     Text(usize),

@@ -1,4 +1,6 @@
 // A message: 16 bytes in, a reading out, or the first refusal of 1 to 7 that holds.
+#![tactic(auto)]
+
 ghost use Rattle.std.specs.Prelude.{◌≡◌, ◌+◌, ◌*◌, ◌-◌, ◌^◌, ◌<◌, min, nat_abs};
 ghost use Rattle.number.specs.Refusal.{answer};
 ghost use Rattle.quantity.specs.Limits.{pressure_limits};
@@ -17,7 +19,7 @@ use quantity::{
 use wire::{Decoded, Message, MessageRefusal};
 
 // What is kept of a message.
-#[derive(Drop)]
+#[derive(Clone, Copy)]
 pub enum Reading {
     Hectopascals(Hectopascals),
     Millimetres(Millimetres),
@@ -29,7 +31,7 @@ pub enum Reading {
 }
 
 // What a message comes to: a refusal, or a reading at its minute.
-#[derive(Drop)]
+#[derive(Clone, Copy)]
 pub enum Received {
     Refused(MessageRefusal),
     At(Minute, Reading),

@@ -1,5 +1,7 @@
 // What the console says of a line that is no command. The line is put at a place of the buffer, what would lie beyond its end is cut
 // off, and the place behind it is given.
+#![tactic(auto)]
+
 ghost use Rattle.text.specs.Text.{Put};
 ghost use Rattle.notice.specs.Notice.{wrong_line, not_such, fault_line};
 

@@ -1,5 +1,7 @@
 // Whole numbers with a sign, and the rounding rule. (Only a message's value goes another way, on an exact half: crate `message`.)
 // A signed number stands in a struct, so that a contract speaks of the number and not of its bits.
+#![tactic(auto)]
+
 ghost use Rattle.std.specs.Prelude.{◌≡◌, ℕ, ◌+◌, ◌*◌, ◌<◌, ◌^◌, min, ℤ, pos, nat_abs, ◌+ℤ◌, ◌-ℤ◌, ◌*ℤ◌};
 ghost use Rattle.std.specs.Int.Signed.{lt_z, le_z};
 ghost use Rattle.number.specs.Round.{rounded};
@@ -7,14 +9,14 @@ ghost use Rattle.number.specs.Whole.{signed, within, Is};
 
 // A number to compute with.
 #[repr(C)]
-#[derive(Drop)]
+#[derive(Clone, Copy)]
 pub struct Number {
     pub v: i64,
 }
 
 // A number as it is kept.
 #[repr(C)]
-#[derive(Drop)]
+#[derive(Clone, Copy)]
 pub struct Kept {
     pub v: i32,
 }

@@ -1,5 +1,7 @@
 // Numbers as bytes, little endian: the number that bytes hold, the bytes of a number, and signed numbers in two bytes
 // and in a word.
+#![tactic(auto)]
+
 ghost use Rattle.std.specs.Prelude.{◌≡◌, [], ◌∷◌};
 ghost use Rattle.octets.specs.Bytes.{le16, le32, bytes16, bytes32, signed16, unsigned16, signed32, word_of};
 

@@ -1,6 +1,8 @@
 // The pressure at sea level and the pressure at the station, from a barometer's reading and its corrections.
 // A reading comes with its unit. Behind `tenths_in` a number is one of tenths of the unit that the store is set to, but where it is said
 // to be one of ten-thousandths.
+#![tactic(auto)]
+
 ghost use Rattle.std.specs.Prelude.{◌≡◌, ◌≤◌, ◌<◌, ◌^◌, nat_abs};
 ghost use Rattle.number.specs.Whole.{Is};
 ghost use Rattle.pressure.specs.Pressure.{barometer_of, in_unit, temperature, height, corrected, to_hectopascals, rounded_once, tenths_in, reading_as, scaled, scaled_as, sea_level_answer, station_answer, pressure_as};
@@ -12,14 +14,14 @@ use quantity::{BarometerUnit, Hectopascals, Millimetres, WheelhouseTemperature};
 use settings::{Height, SeaLevelDifference, TemperatureCoefficient};
 
 // What a barometer shows, in its unit.
-#[derive(Drop)]
+#[derive(Clone, Copy)]
 pub enum BarometerReading {
     Hectopascals(Hectopascals),
     Millimetres(Millimetres),
 }
 
 // A pressure that was worked from a reading.
-#[derive(Drop)]
+#[derive(Clone, Copy)]
 pub enum WorkedPressure {
     Given(Hectopascals),
     // 7: the reading is in another unit than the store's, or the temperature is outside its limits

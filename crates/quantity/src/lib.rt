@@ -1,5 +1,7 @@
 // The quantities of a ship's weather, each with its limits. All are whole numbers of the last place that document 01 shows.
 // A quantity of another unit is another type, and the one conversion of each pair that a formula joins stands here.
+#![tactic(auto)]
+
 ghost use Rattle.std.specs.Prelude.{◌≡◌, ℕ, ◌*◌, ◌%◌, leb, pos};
 ghost use Rattle.quantity.specs.Limits.{inside, hectopascals, recorded_pressure, pressure_change, millimetres, pressure_limits, wheelhouse, bulb, frost, doubtful, metres_per_second, true_wind, knots, degrees, last_minute};
 ghost use Rattle.quantity.specs.States.{state_number, is_state, state_of};
@@ -8,30 +10,30 @@ ghost use Rattle.quantity.specs.Convert.{in_hectopascals, kept_direction, parts_
 use number::{Kept, Number};
 
 // The unit of a barometer.
-#[derive(Drop)]
+#[derive(Clone, Copy)]
 pub enum BarometerUnit {
     Hectopascals,
     Millimetres,
 }
 
 // A pressure in tenths of hPa. One size up from mm Hg, so that every number of mm Hg has its hPa.
-#[derive(Drop)]
+#[derive(Clone, Copy)]
 pub struct Hectopascals(pub Number);
 
 // A pressure in tenths of mm Hg.
-#[derive(Drop)]
+#[derive(Clone, Copy)]
 pub struct Millimetres(pub Kept);
 
 // The temperature in the wheelhouse, in tenths of °C.
-#[derive(Drop)]
+#[derive(Clone, Copy)]
 pub struct WheelhouseTemperature(pub Kept);
 
 // The temperature of the dry or the wet bulb, in tenths of °C.
-#[derive(Drop)]
+#[derive(Clone, Copy)]
 pub struct BulbTemperature(pub Kept);
 
 // What is on the wick of the wet bulb.
-#[derive(Drop)]
+#[derive(Clone, Copy)]
 pub enum BulbState {
     Water,
     Ice,
@@ -40,23 +42,23 @@ pub enum BulbState {
 }
 
 // A speed in tenths of m/s.
-#[derive(Drop)]
+#[derive(Clone, Copy)]
 pub struct MetresPerSecond(pub u32);
 
 // A speed in tenths of a knot.
-#[derive(Drop)]
+#[derive(Clone, Copy)]
 pub struct Knots(pub u32);
 
 // A speed in parts of 1/12500 m/s: in these a tenth of a m/s and 0.5144 times a tenth of a knot are both whole.
-#[derive(Drop)]
+#[derive(Clone, Copy)]
 pub struct SpeedParts(pub u64);
 
 // A direction in whole degrees, clockwise.
-#[derive(Drop)]
+#[derive(Clone, Copy)]
 pub struct Degrees(pub u32);
 
 // A minute of the station's count.
-#[derive(Drop)]
+#[derive(Clone, Copy)]
 pub struct Minute(pub u32);
 
 impl BarometerUnit {

@@ -1,4 +1,6 @@
 // The reader of a watch file: contents first, then each body from its own offset.
+#![tactic(auto)]
+
 ghost use Rattle.std.specs.Prelude.{◌≡◌, true, ◌&&◌, ℕ, ◌+◌, ◌≤◌, eqb, ℤ, pos, length};
 ghost use Rattle.number.specs.Refusal.{given};
 ghost use Rattle.octets.specs.Bytes.{le16, le32};
@@ -11,7 +13,7 @@ use number::Kept;
 use watchfile::{Figures, NOTHING, RECORDS};
 
 // What a file comes to.
-#[derive(Drop)]
+#[derive(Clone, Copy)]
 pub enum Verdict {
     // How many records it has.
     Good(usize),
@@ -20,14 +22,14 @@ pub enum Verdict {
 }
 
 // A row of the contents.
-#[derive(Drop)]
+#[derive(Clone, Copy)]
 struct Row {
     kind: u8,
     minute: u32,
 }
 
 // What a row comes to.
-#[derive(Drop)]
+#[derive(Clone, Copy)]
 enum RowRead {
     Good(Row),
     // the place in the row
@@ -35,7 +37,7 @@ enum RowRead {
 }
 
 // Where a record stands.
-#[derive(Drop)]
+#[derive(Clone, Copy)]
 enum Place {
     // its row, and the offset of its body
     At(Row, usize),
@@ -43,7 +45,7 @@ enum Place {
 }
 
 // What a body comes to.
-#[derive(Drop)]
+#[derive(Clone, Copy)]
 enum BodyTested {
     Right,
     // the place in the body

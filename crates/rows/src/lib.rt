@@ -1,10 +1,12 @@
 // Reading an entry of a long table. A table that is read at a place known only at run time is copied to the stack first; here every
 // place that is read is a number of the text, so that what is compiled reads one word of the table in place.
+#![tactic(auto)]
+
 ghost use Rattle.std.specs.Prelude.{◌≡◌, ◌+◌, ◌<◌, ◌≤◌, length, get_or};
 ghost use Rattle.rows.specs.Rows.{Small, word, nth_of, chosen_of, IsWhole, IsRow, entry_of};
 
 // Eight entries of 16 bits in a row: the first four, and the others; of each the first in the lowest bits.
-#[derive(Drop)]
+#[derive(Clone, Copy)]
 struct Eight(u64, u64);
 
 // An entry as a word.

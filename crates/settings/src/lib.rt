@@ -1,4 +1,6 @@
 // The settings of a store: their limits, and refusals 9, 10 and 25.
+#![tactic(auto)]
+
 ghost use Rattle.std.specs.Prelude.{◌≡◌, Bool, true, false, ◌&&◌, ℕ, ◌+◌, ◌-◌, ◌≤◌, ◌<◌, get_or};
 ghost use Rattle.number.specs.Refusal.{number_in};
 ghost use Rattle.quantity.specs.Limits.{inside};
@@ -15,32 +17,32 @@ pub const RATES: usize = 20;
 
 // The height of the barometer, in tenths of a metre.
 #[repr(C)]
-#[derive(Drop)]
+#[derive(Clone, Copy)]
 pub struct Height(pub Kept);
 
 // How much the sea lies higher than the ocean, in tenths of a metre: negative when the closed sea lies lower.
 #[repr(C)]
-#[derive(Drop)]
+#[derive(Clone, Copy)]
 pub struct SeaLevelDifference(pub Kept);
 
 // The barometer's temperature coefficient, in thousandths of its unit per °C.
 #[repr(C)]
-#[derive(Drop)]
+#[derive(Clone, Copy)]
 pub struct TemperatureCoefficient(pub Kept);
 
 // The psychrometer's coefficient A, in millionths.
 #[repr(C)]
-#[derive(Drop)]
+#[derive(Clone, Copy)]
 pub struct PsychrometerCoefficient(pub Kept);
 
 // A correction of a certificate, in tenths of the barometer's unit.
 #[repr(C)]
-#[derive(Drop)]
+#[derive(Clone, Copy)]
 pub struct Correction(pub Kept);
 
 // A point of a certificate: a reading in tenths of the barometer's unit, and its correction.
 #[repr(C)]
-#[derive(Drop)]
+#[derive(Clone, Copy)]
 pub struct Point {
     pub reading: Kept,
     pub correction: Correction,
@@ -48,12 +50,12 @@ pub struct Point {
 
 // The rate of an anemometer's dial, in divisions a second.
 #[repr(C)]
-#[derive(Drop)]
+#[derive(Clone, Copy)]
 pub struct Rate(pub Kept);
 
 // A point of an anemometer's certificate: a rate, and its speed in tenths of m/s.
 #[repr(C)]
-#[derive(Drop)]
+#[derive(Clone, Copy)]
 pub struct RatePoint {
     pub rate: Rate,
     pub speed: Kept,
@@ -61,14 +63,14 @@ pub struct RatePoint {
 
 // The hand anemometer: of the points the first `count` are its certificate. With none the store has no anemometer.
 #[repr(C)]
-#[derive(Drop)]
+#[derive(Clone, Copy)]
 pub struct Anemometer {
     pub count: u32,
     pub points: [RatePoint; RATES],
 }
 
 // The settings of a store, right or wrong. Of the points the first `count` are the certificate.
-#[derive(Drop)]
+#[derive(Clone, Copy)]
 pub struct Settings {
     pub unit: BarometerUnit,
     pub height: Height,
@@ -81,7 +83,7 @@ pub struct Settings {
 }
 
 // What settings come to.
-#[derive(Drop)]
+#[derive(Clone, Copy)]
 pub enum Checked {
     // They are within their limits.
     Good,

@@ -1,4 +1,6 @@
 // The settings sheet: the settings of a store as words of 32 bits, as C hands them over and gets them back.
+#![tactic(auto)]
+
 ghost use Rattle.std.specs.Prelude.{◌≡◌, ◌<◌};
 ghost use Rattle.block.specs.Words.{setting_of};
 ghost use Rattle.sheet.specs.Sheet.{WORDS, unit_in, unit_number, points_in, rates_in, settings_in, paired, points_word, rates_word, sheet_word, sheet_of};

@@ -1,16 +1,18 @@
 // The sine at each half degree from 0 to 90, in millionths, and from it the sine and the cosine of any half degree.
+#![tactic(auto)]
+
 ghost use Rattle.std.specs.Prelude.{◌≡◌, ◌+◌, ◌-◌, ◌*◌};
 ghost use Rattle.sine.specs.Sine.{entry, size, sine, cosine, Parts};
 
 // A number that may be below zero: it is `up` where it is not, and minus `down` where it is. The other of the two is 0.
-#[derive(Drop)]
+#[derive(Clone, Copy)]
 pub struct Millionths {
     pub up: u64,
     pub down: u64,
 }
 
 // The sine and the cosine of a mark.
-#[derive(Drop)]
+#[derive(Clone, Copy)]
 pub struct SineAndCosine(pub u64, pub u64);
 
 // The table's entry for i half degrees; 0 past the last, 180. As a `match` it is compiled to a table that is read in place.

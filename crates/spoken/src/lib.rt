@@ -1,5 +1,7 @@
 // What people read: answers, readings and refusals as text in a lent buffer, figures with sign, point and unit. As all text it is cut
 // off at the buffer's end, and each function gives the place behind what it put. C2 B0 is the degree sign.
+#![tactic(auto)]
+
 ghost use Rattle.std.specs.Prelude.{◌++◌};
 ghost use Rattle.text.specs.Letters.{letters};
 ghost use Rattle.text.specs.Text.{decimal, Put};

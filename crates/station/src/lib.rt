@@ -1,5 +1,7 @@
 // What a ship calls: a store is opened, hears messages and entries of the hand anemometer, and is asked for pressure, tendency, true wind and humidity.
 // Any block, any bytes, any minute gets an answer, a block that is no store that it is none; asking changes nothing.
+#![tactic(auto)]
+
 ghost use Rattle.std.specs.Prelude.{◌≡◌};
 ghost use Rattle.settings.specs.Settings.{checked, checked_as};
 ghost use Rattle.store.specs.Block.{opened_by, recall_of, Hears};
@@ -22,7 +24,7 @@ use store::Hearing;
 use wind::TrueWind;
 
 // Why a question is refused.
-#[derive(Drop)]
+#[derive(Clone, Copy)]
 pub enum QuestionRefusal {
     // 5
     MinuteTooLate,
@@ -49,7 +51,7 @@ pub enum QuestionRefusal {
 }
 
 // A refusal's number, with the minute, or the channel and the minute, that it also returns.
-#[derive(Drop)]
+#[derive(Clone, Copy)]
 pub enum Refused {
     Plain(u32),
     OfMinute(u32, Minute),
@@ -57,41 +59,41 @@ pub enum Refused {
 }
 
 // Pressure at sea level.
-#[derive(Drop)]
+#[derive(Clone, Copy)]
 pub enum PressureAnswer {
     Given(Hectopascals),
     Refused(QuestionRefusal),
 }
 
 // Its change in three hours, and how many barometer minutes between are absent.
-#[derive(Drop)]
+#[derive(Clone, Copy)]
 pub enum TendencyAnswer {
     Given(Hectopascals, u64),
     Refused(QuestionRefusal),
 }
 
 // Speed of the true wind, and where it comes from: 1 to 360, or 0 in a calm.
-#[derive(Drop)]
+#[derive(Clone, Copy)]
 pub enum WindAnswer {
     Given(MetresPerSecond, Degrees),
     Refused(QuestionRefusal),
 }
 
-#[derive(Drop)]
+#[derive(Clone, Copy)]
 pub enum HumidityAnswer {
     Given(HumidityFigures),
     Refused(QuestionRefusal),
 }
 
 // What the barometer shows at a minute.
-#[derive(Drop)]
+#[derive(Clone, Copy)]
 enum Shown {
     Nothing,
     Shows(BarometerReading),
 }
 
 // Sea level pressure at a minute, or the channel that has no reading, or that the reading lies outside the certificate.
-#[derive(Drop)]
+#[derive(Clone, Copy)]
 enum AtMinute {
     NotKept(u32),
     Outside,

@@ -1,5 +1,7 @@
 // The store: a block that the caller lends is opened with settings, hears messages and entries of the hand anemometer, and is asked what
 // it keeps.
+#![tactic(auto)]
+
 ghost use Rattle.std.specs.Prelude.{◌≡◌, ℕ, ◌≤◌, ◌<◌, length};
 ghost use Rattle.number.specs.Refusal.{answer, numbered_in};
 ghost use Rattle.settings.specs.Settings.{checked, checked_as};
@@ -22,7 +24,7 @@ use window::{Found, WINDOW};
 use wire::MessageRefusal;
 
 // What hearing a message or an entry comes to.
-#[derive(Drop)]
+#[derive(Clone, Copy)]
 pub enum Hearing {
     Heard,
     // 1 to 7; of an entry 5 and 7
@@ -58,7 +60,7 @@ pub fn number(h: Hearing) -> u32
 }
 
 // An entry worked into an apparent wind, or why there is none.
-#[derive(Drop)]
+#[derive(Clone, Copy)]
 enum Worked {
     Wind(MetresPerSecond, Degrees),
     // 23
@@ -70,7 +72,7 @@ enum Worked {
 }
 
 // The course at a minute.
-#[derive(Drop)]
+#[derive(Clone, Copy)]
 enum Course {
     NoneThere,
     At(Degrees),

@@ -1,5 +1,7 @@
 // Text into a lent buffer. What would lie beyond the buffer's end is cut off, so that a text can be put anywhere, and one text
 // behind another is the two of them joined.
+#![tactic(auto)]
+
 ghost use Rattle.std.specs.Prelude.{[], ◌∷◌, ◌%◌, ◌≡◌};
 ghost use Rattle.text.specs.Text.{digit, decimal, decimal_of, field, field_of, Put};
 

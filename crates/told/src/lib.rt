@@ -1,5 +1,7 @@
 // Answers as C sees them: the documents' number, what a refusal also returns, and figures. A number of 0 says that
 // nothing was refused.
+#![tactic(auto)]
+
 ghost use Rattle.std.specs.Prelude.{◌≡◌};
 ghost use Rattle.store.specs.Block.{heard_as};
 ghost use Rattle.station.specs.Told.{refusal_of, pressure_as, tendency_as, wind_as, humidity_as};
@@ -13,7 +15,7 @@ use store::Hearing;
 
 // What hearing a message came to: the number, and the minutes where it was late, 19.
 #[repr(C)]
-#[derive(Drop)]
+#[derive(Clone, Copy)]
 pub struct HearTold {
     pub number: u32,
     pub late: u64,
@@ -22,7 +24,7 @@ pub struct HearTold {
 // What hearing an entry came to: the number, and the channel and the minute where there is no course, 11, or the minutes where it was
 // late, 19.
 #[repr(C)]
-#[derive(Drop)]
+#[derive(Clone, Copy)]
 pub struct NoteTold {
     pub number: u32,
     pub channel: u32,
@@ -32,7 +34,7 @@ pub struct NoteTold {
 
 // Why a question is refused: the number, and the channel and the minute where it returns them.
 #[repr(C)]
-#[derive(Drop)]
+#[derive(Clone, Copy)]
 pub struct Refusal {
     pub number: u32,
     pub channel: u32,
@@ -48,14 +50,14 @@ pub const NONE: Refusal = Refusal {
 
 // Figures are 0 where the question is refused.
 #[repr(C)]
-#[derive(Drop)]
+#[derive(Clone, Copy)]
 pub struct PressureTold {
     pub refusal: Refusal,
     pub pressure: Number,
 }
 
 #[repr(C)]
-#[derive(Drop)]
+#[derive(Clone, Copy)]
 pub struct TendencyTold {
     pub refusal: Refusal,
     pub change: Number,
@@ -63,7 +65,7 @@ pub struct TendencyTold {
 }
 
 #[repr(C)]
-#[derive(Drop)]
+#[derive(Clone, Copy)]
 pub struct WindTold {
     pub refusal: Refusal,
     pub speed: u32,
@@ -71,7 +73,7 @@ pub struct WindTold {
 }
 
 #[repr(C)]
-#[derive(Drop)]
+#[derive(Clone, Copy)]
 pub struct HumidityTold {
     pub refusal: Refusal,
     pub e: u32,

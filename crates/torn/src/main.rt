@@ -1,4 +1,6 @@
 // Lists watch files, whole and damaged, each behind a line that says in words what it is.
+#![tactic(auto)]
+
 ghost use Rattle.std.specs.Prelude.{◌<◌};
 
 use libc::STDOUT_FILENO;

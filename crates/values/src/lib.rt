@@ -1,4 +1,6 @@
 // From the numbers of a line to values: the settings of an `open` line, and the records of a `write` line.
+#![tactic(auto)]
+
 ghost use Rattle.std.specs.Prelude.{◌≡◌, ◌+◌, ◌-◌, ◌*◌, ◌<◌, length};
 ghost use Rattle.values.specs.Values.{at, kept_of, count_of, unit_of, barometer_points, point_of, rate_point_of, anemometer_of, body_of, record_of, settings_of, records_of};
 

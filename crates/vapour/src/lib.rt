@@ -1,4 +1,6 @@
 // Saturation of water vapour over water and over ice, the dew point, and what vapour pressure and saturation come to.
+#![tactic(auto)]
+
 ghost use Rattle.std.specs.Prelude.{◌≡◌, true, ◌<◌, ◌≤◌};
 ghost use Rattle.quantity.specs.Limits.{inside, bulb};
 ghost use Rattle.vapour.specs.Vapour.{Near, water, ice, AreSaturations, IsOverIce, lowest_vapour, highest_vapour, recorded_vapour, IsDew, TellsDew, DewPoint, relative_humidity, vapour_deficit};
@@ -11,7 +13,7 @@ use tables::{ICE_SATURATION, SATURATION};
 mod tables;
 
 // A pressure of vapour, in hundredths of hPa.
-#[derive(Drop)]
+#[derive(Clone, Copy)]
 pub struct VapourPressure(pub u32);
 
 impl VapourPressure {
@@ -28,11 +30,11 @@ impl VapourPressure {
 }
 
 // A dew point, in tenths of °C.
-#[derive(Drop)]
+#[derive(Clone, Copy)]
 pub struct DewTemperature(pub Kept);
 
 // What the table over water says of both bulbs.
-#[derive(Drop)]
+#[derive(Clone, Copy)]
 pub enum Saturations {
     // The entry of the dry bulb, and that of the wet.
     Entries(VapourPressure, VapourPressure),
@@ -41,7 +43,7 @@ pub enum Saturations {
 }
 
 // What the table over ice says of a bulb.
-#[derive(Drop)]
+#[derive(Clone, Copy)]
 pub enum OverIce {
     Entry(VapourPressure),
     // The bulb is outside the table.
@@ -49,7 +51,7 @@ pub enum OverIce {
 }
 
 // What the dew point comes to.
-#[derive(Drop)]
+#[derive(Clone, Copy)]
 pub enum Dew {
     Point(DewTemperature),
     // The pressure is outside its limits.
@@ -120,7 +122,7 @@ pub fn saturation_over_ice(bulb: BulbTemperature) -> OverIce
 }
 
 // A cubic curve over a stretch of length 1: where it starts, its slope, its bend and its twist, in 65536ths.
-#[derive(Drop)]
+#[derive(Clone, Copy)]
 struct Curve(u32, u32, u32, u32);
 
 // How far a curve has gone from its start, w 65536ths of its stretch on.

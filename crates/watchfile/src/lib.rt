@@ -1,4 +1,6 @@
 // The records of a watch file, and the rules of its fields: what the reader and the writer test alike.
+#![tactic(auto)]
+
 ghost use Rattle.std.specs.Prelude.{◌≡◌, ◌&&◌, ℕ, ℤ};
 ghost use Rattle.watchfile.specs.Rules.{kind_right, size_of, rank, minute_right, pressure_right, change_right, absent_right, speed_right, direction_right, e_right, saturation_right, deficit_right, relative_right, dew_right};
 ghost use Rattle.watchfile.specs.Format.{DewRule, kind_of, body_right, record_right};
@@ -8,7 +10,7 @@ use quantity::{Degrees, Hectopascals, MetresPerSecond, Minute};
 use vapour::{DewTemperature, VapourPressure};
 
 // What a record holds, by its kind: the fields as the file stores them.
-#[derive(Drop)]
+#[derive(Clone, Copy)]
 pub enum Body {
     // tenths of hPa
     Pressure(u16),
@@ -33,7 +35,7 @@ pub enum Body {
 }
 
 // A record of a watch file.
-#[derive(Drop)]
+#[derive(Clone, Copy)]
 pub struct Record {
     pub minute: u32,
     pub body: Body,
@@ -41,7 +43,7 @@ pub struct Record {
 
 // A record by its figures: its kind, 1 to 4, its minute, and its body's fields in their order.
 #[repr(C)]
-#[derive(Drop)]
+#[derive(Clone, Copy)]
 pub struct Figures {
     pub kind: u32,
     pub minute: u32,

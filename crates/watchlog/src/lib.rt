@@ -1,4 +1,6 @@
 // The logbook: a watch file in a lent buffer, into which records are written, put in their place and taken out.
+#![tactic(auto)]
+
 ghost use Rattle.std.specs.Prelude.{◌≡◌, ℕ, ◌+◌, ◌≤◌, ℤ, length, take};
 ghost use Rattle.number.specs.Refusal.{given};
 ghost use Rattle.std.proofs.lemmas.List.Edits.{sets};
@@ -58,7 +60,7 @@ pub fn write(file: &mut [u8], records: [Record; RECORDS], count: usize) -> Writt
 // ---- a record put in its place
 
 // What placing a record comes to.
-#[derive(Drop)]
+#[derive(Clone, Copy)]
 pub enum Placed {
     // the bytes of the new file
     Done(usize),

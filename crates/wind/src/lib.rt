@@ -1,5 +1,7 @@
 // The true wind from the ship's motion and the apparent wind, by whole numbers only.
 // Speeds are in parts of 1/12500 m/s, sines and cosines in millionths.
+#![tactic(auto)]
+
 ghost use Rattle.std.specs.Prelude.{◌≡◌, cond, ◌+◌, ◌≤◌, ◌<◌, pos};
 ghost use Rattle.quantity.specs.Limits.{inside, degrees, knots, metres_per_second, highest_wind};
 ghost use Rattle.wind.specs.Wind.{Nearest, count, between, turned, compass, from};
@@ -10,7 +12,7 @@ use number::Number;
 use quantity::{Degrees, Knots, MetresPerSecond};
 
 // The true wind.
-#[derive(Drop)]
+#[derive(Clone, Copy)]
 pub enum TrueWind {
     // Its speed, and where it comes from: 1 to 360, or 0 in a calm.
     Blows(MetresPerSecond, Degrees),

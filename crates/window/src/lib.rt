@@ -1,5 +1,7 @@
 // A channel's window: its part of the lent block. One word for the minute after the newest, one presence bit a minute, one cell
 // a minute. A slice of another length is no window: nothing is kept in it, and it takes nothing.
+#![tactic(auto)]
+
 ghost use Rattle.std.specs.Prelude.{◌≡◌, ℕ, ◌+◌, ◌-◌, ◌*◌, ◌/◌, ◌%◌, ◌^◌, ◌≤◌, ◌<◌, min, max, length, get_or};
 ghost use Rattle.window.specs.Layout.{MINUTES, WINDOW, word_of, cell_of};
 ghost use Rattle.window.specs.Bits.{bit, total};
@@ -18,7 +20,7 @@ const CELLS: usize = HEARD + MINUTES as usize / 64;
 pub const WINDOW: usize = CELLS + MINUTES as usize;
 
 // What is kept of a minute.
-#[derive(Drop)]
+#[derive(Clone, Copy)]
 pub enum Found {
     Absent,
     Cell(u64),

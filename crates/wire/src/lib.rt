@@ -1,4 +1,6 @@
 // A message as it comes: 16 bytes in, one of six kinds and its minute out, or the first refusal of 1 to 6 that holds.
+#![tactic(auto)]
+
 ghost use Rattle.std.specs.Prelude.{◌≡◌, ◌+◌, ◌≤◌, length, drop};
 ghost use Rattle.std.specs.Float.{binary32};
 ghost use Rattle.std.specs.Float.Ieee.{of_bits};
@@ -13,7 +15,7 @@ ghost use Rattle.wire.specs.Decode.{number_of, wire_tests, sent, decoded, decode
 use quantity::{BulbState, Minute};
 
 // Why a message is refused, in the order in which it is tested.
-#[derive(Drop)]
+#[derive(Clone, Copy)]
 pub enum MessageRefusal {
     // 1
     NotSixteenBytes,
@@ -47,14 +49,14 @@ pub fn number(r: MessageRefusal) -> u32
 }
 
 // Two values that travel together: a speed and an angle.
-#[derive(Drop)]
+#[derive(Clone, Copy)]
 pub struct Pair {
     pub speed: f32,
     pub angle: f32,
 }
 
 // A decoded message: one of six kinds, each with its own binary32 values, and the wet bulb's with its state.
-#[derive(Drop)]
+#[derive(Clone, Copy)]
 pub enum Message {
     Barometer(f32),
     Wheelhouse(f32),
@@ -65,7 +67,7 @@ pub enum Message {
 }
 
 // What the bytes of a message say, before its values are rounded.
-#[derive(Drop)]
+#[derive(Clone, Copy)]
 pub enum Decoded {
     Refused(MessageRefusal),
     At(Minute, Message),

@@ -1,4 +1,6 @@
 // The writer of watch files.
+#![tactic(auto)]
+
 ghost use Rattle.std.specs.Prelude.{◌≡◌, [], ◌∷◌, ◌++◌, ℕ, ◌+◌, ◌*◌, ◌≤◌, ℤ, length, take};
 ghost use Rattle.std.proofs.lemmas.List.Edits.{sets};
 ghost use Rattle.octets.specs.Bytes.{bytes16, bytes32};
@@ -11,7 +13,7 @@ use number::Kept;
 use watchfile::{Body, RECORDS};
 
 // What a write came to.
-#[derive(Drop)]
+#[derive(Clone, Copy)]
 pub enum Written {
     // the bytes of the file
     Done(usize),
@@ -22,7 +24,7 @@ pub enum Written {
 }
 
 // What the records come to before a byte is written.
-#[derive(Drop)]
+#[derive(Clone, Copy)]
 enum Checked {
     // the bytes of their file
     Needs(usize),

@@ -1,6 +1,8 @@
 // What ships' software calls from C and Rust: a static library over the station and the watch file. What it calls besides is `bridge`.
 // Any block, bytes, numbers and room get an answer. A number of a refusal is the documents'; 0 says that nothing was refused, and 255,
 // which is none of theirs, that the block was never opened.
+#![tactic(auto)]
+
 ghost use Rattle.std.specs.Prelude.{◌≡◌, ℕ, ℤ};
 ghost use Rattle.station.specs.Questions as asked;
 ghost use Rattle.watchfile.specs.Format.{DewRule, reading};
