@@ -1,0 +1,13 @@
+-- `zhitomrak_say_tendency` meets its contract: why there are no figures, or the figures. Assumes nothing.
+use Rattle.bridge.proofs.SaidLaws.{put_as, is_refused, is_given_lem}
+use Rattle.bridge.proofs.zhitomrak_say_tendency.Goals as goal
+
+pub returns-then-refusal-ne0 : goal.returns-then-refusal-ne0
+returns-then-refusal-ne0 c =
+    let q = c.args in
+    put_as (is_refused q.told.refusal _ c.if-refusal-ne0.true) c.?Put-refused.ensures
+
+pub returns : goal.returns
+returns c =
+    let q = c.args in
+    put_as (is_given_lem q.told.refusal _ c.if-refusal-ne0.false) c.put_tendency.ensures

@@ -1,0 +1,28 @@
+-- `tendency_record` meets its contract, test by test. Assumes nothing.
+use mathlib.Core.Path.{sym, ◌∙◌}
+use native.Mathlib.Omega.{arith}
+use borrow.Author.Tests.{not-true, not-false}
+use borrow.Author.Rules.{rules}
+use Rattle.desk.proofs.EntryLaws.{signed_small, no_change, no_absent, tendency_some}
+use Rattle.desk.proofs.tendency_record.Goals as goal
+
+pub returns-then-not-within : goal.returns-then-not-within
+returns-then-not-within c =
+    let start = c.args in
+    let g = c.r-1.given in
+    no_change start.minute start.r g.0.0 g.0.1.0 g.1 (sym c.within.ensures ∙ not-true _ c.if-not-within.true-raw)
+
+pub returns-then-absent-gt255 : goal.returns-then-absent-gt255
+returns-then-absent-gt255 c =
+    let start = c.args in
+    let g = c.r-1.given in
+    no_absent start.minute start.r g.0.0 g.0.1.0 g.1 (sym c.within.ensures ∙ not-false _ c.if-not-within.false-raw) c.if-absent-gt255.true
+
+pub keep-requires : goal.keep-requires
+keep-requires c = omega (arith, signed_small c.in-Given.c.0.v (sym c.within.ensures ∙ not-false _ c.if-not-within.false-raw))
+
+pub returns-else-absent-gt255 : goal.returns-else-absent-gt255
+returns-else-absent-gt255 c =
+    let start = c.args in
+    let g = c.r-1.given in
+    tendency_some start.minute start.r g.0.0 g.0.1.0 g.1 c.keep.result c.keep.ensures (sym c.within.ensures ∙ not-false _ c.if-not-within.false-raw) (search rules)

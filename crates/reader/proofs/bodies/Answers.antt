@@ -1,0 +1,154 @@
+-- `bodies` meets its contract: what is left to test answers for all of it; a body's own offset is where the one before it
+-- ended, since the contents are right. Assumes nothing.
+use mathlib.Core.Path.{◌≡◌, sym, ap, ◌∙◌, subst}
+use mathlib.Core.List.{List}
+use Prim.Native.Nat.{ℕ, suc, ◌+◌, ◌-◌, ◌≤◌}
+use native.Mathlib.Omega.{arith}
+use lib.IntN.{ℤ}
+use lib.ListN.{length, drop, get_or}
+use Rattle.number.specs.Refusal.{Answer, refused, given}
+use Rattle.octets.specs.Bytes.{le32}
+use Rattle.watchfile.specs.Rules.{size_of, rank}
+use Rattle.watchfile.specs.Format.{DewRule, rows_fields, bodies_fields, records_from, start_of}
+use Rattle.watchfile.specs.declared.Record.{Record}
+use Rattle.watchfile.proofs.DewRules.{the_rule}
+use Rattle.watchfile.proofs.FieldLaws.{given_passed, size_most}
+use Rattle.reader.specs.Read.{counted}
+use Rattle.reader.specs.Work.{found}
+use Rattle.reader.specs.declared.BodyTested.{BodyTested}
+use Rattle.reader.proofs.ContentsLaws.{part, length_part}
+use Rattle.reader.proofs.BodiesLaws.{kind_at, kind_is, row_right, BodyAt, body_stop, body_on, end_extra, end_none, length_records}
+use Rattle.reader.proofs.bodies.Goals as goal
+
+-- what the bodies come to from one on: all records, or a place
+abbrev left : List ℕ → ℕ → (ℕ → ℤ) → ℕ → ℕ → ℕ → Answer ℕ (List Record)
+left s count rule n row at = found s (bodies_fields rule s n row at) (records_from s count 4 (start_of count))
+
+at-end : (rule : ℕ → ℤ) (s : List ℕ) (row at end : ℕ) (q : BodyTested) → at ≡ end → BodyAt rule (part s at) (get_or (part s row) 0 0) q → BodyAt rule (part s end) (kind_at s row) q
+at-end rule s row at end q e h =
+    subst (λ (x : ℕ). BodyAt rule (part s x) (kind_at s row) q) e (subst (λ (k : ℕ). BodyAt rule (part s at) k q) (kind_is s row) h)
+
+-- the offset that the file has of the body is where the body before it ended
+offset : (c : goal.at.After-get16-at invariant-loop decreases-loop) → c.get16-at.result ≡ c.loop-i.end
+offset c =
+    let l = c.loop-i in
+    let q = c.args in
+    c.get16-at.ensures
+    ∙ (row_right (length q.file.now) q.file.now (q.count - l.i) (q.count - (l.i + 1)) l.row l.end l.invariant.3.0 (omega arith) l.invariant.3.1).0
+
+-- where a body is broken, so is the file
+stop : (c : goal.at.In-Wrong invariant-loop decreases-loop) (rule : ℕ → ℤ) → DewRule rule →
+    let l = c.loop-i in
+    let q = c.args in
+    let place = c.get16-at.result + c.in-Wrong.k in
+    (left q.file.now q.count rule (q.count - l.i) l.row l.end ≡ refused place) × (place ≤ length q.file.now)
+stop c rule ruled =
+    let l = c.loop-i in
+    let q = c.args in
+    let s = q.file.now in
+    let r = c.test_body in
+    let at = c.get16-at.result in
+    let o : at ≡ l.end = offset c.before.before.before.before.before in
+    rw o (body_stop rule s (records_from s q.count 4 (start_of q.count)) (q.count - l.i) (q.count - (l.i + 1)) l.row l.end (omega arith) l.invariant.2 r.result
+    c.in-Wrong.k (at-end rule s l.row at l.end r.result o (r.ensures rule ruled)) c.in-Wrong.is)
+
+-- where it is right, the bodies behind it answer for it
+on : (c : goal.at.After-size_of invariant-loop decreases-loop) (rule : ℕ → ℤ) → DewRule rule →
+    let l = c.loop-i in
+    let q = c.args in
+    let s = q.file.now in
+    let end = l.end + size_of (kind_at s l.row) in
+    (left s q.count rule (q.count - l.i) l.row l.end ≡ left s q.count rule (q.count - (l.i + 1)) (l.row + 8) end)
+    × (end ≤ length s)
+on c rule ruled =
+    let l = c.loop-i in
+    let q = c.args in
+    let s = q.file.now in
+    let r = c.test_body in
+    let head = c.before.before.before.before.before in
+    body_on rule s (records_from s q.count 4 (start_of q.count)) (q.count - l.i) (q.count - (l.i + 1)) l.row l.end (omega arith) l.invariant.2 r.result
+    (at-end rule s l.row c.get16-at.result l.end r.result (offset head) (r.ensures rule ruled)) c.in-Right.is
+
+pub loop-i-init : goal.loop-i-init
+loop-i-init c =
+    let q = c.args in
+    let s = q.file.now in
+    let all : q.count - 0 ≡ q.count = omega arith in
+    let right = given_passed (length s) (rows_fields s q.count 4 (start_of q.count) 0) q.count q.count c.requires.1 in
+    (omega arith, omega arith, omega arith, (0, rw all right), λ rule ruled. rw all)
+
+pub bounds-head-0 : goal.bounds-head-0
+bounds-head-0 c = omega (arith, length_part c.args.file.now c.loop-i.row)
+
+pub get16-at-requires : goal.get16-at-requires
+get16-at-requires c = omega (arith, length_part c.args.file.now c.loop-i.row)
+
+pub slice_bounds-test_body-count : goal.slice_bounds-test_body-count
+slice_bounds-test_body-count c = let o = offset c in omega arith
+
+pub slice_bounds-test_body-start : goal.slice_bounds-test_body-start
+slice_bounds-test_body-start c = let o = offset c in omega arith
+
+pub slice_bounds-test_body-end : goal.slice_bounds-test_body-end
+slice_bounds-test_body-end c = let o = offset c in omega arith
+
+pub enum_told-1 : goal.enum_told-1
+enum_told-1 c = c.in-Right.in-Right-own.keys1
+
+pub enum_known-k : goal.enum_known-k
+enum_known-k c = c.in-Wrong.in-Wrong-own.keys2
+
+pub overflow_add-place : goal.overflow_add-place
+overflow_add-place c = let t = stop c the_rule.0 the_rule.1 in omega arith
+
+pub returns-in-Wrong : goal.returns-in-Wrong
+returns-in-Wrong c =
+    λ rule ruled.
+    let l = c.loop-i in
+    ap counted (sym (l.invariant.4 rule ruled ∙ (stop c rule ruled).0))
+
+pub overflow_add-end-in-loop-i : goal.overflow_add-end-in-loop-i
+overflow_add-end-in-loop-i c =
+    let o = offset c.before.before.before.before.before in
+    let l = c.loop-i in
+    let s = c.args.file.now in
+    omega (arith, size_most (get_or (part s l.row) 0 0))
+
+pub loop-i-preserved : goal.loop-i-preserved
+loop-i-preserved c =
+    let l = c.loop-i in
+    let q = c.args in
+    let s = q.file.now in
+    let n = q.count - l.i in
+    let m = q.count - (l.i + 1) in
+    let some : n ≡ suc m = omega arith in
+    let head = c.before.before.before.before.before in
+    let at = c.get16-at.result in
+    let o : at ≡ l.end = offset head in
+    let z : c.?type_size.result ≡ size_of (kind_at s l.row) = c.?type_size.ensures ∙ ap size_of (kind_is s l.row) in
+    let t = on c the_rule.0 the_rule.1 in
+    let behind = (row_right (length s) s n m l.row l.end l.invariant.3.0 some l.invariant.3.1).1 in (
+      omega arith,
+      omega arith,
+      omega (arith, t.1),
+      (rank (le32 (drop l.row s) 4) (kind_at s l.row), rw (z, o) behind),
+      λ rule ruled. l.invariant.4 rule ruled ∙ (on c rule ruled).0 ∙ rw (z, o),
+    )
+
+pub returns-then-end-file : goal.returns-then-end-file
+returns-then-end-file c =
+    λ rule ruled.
+    let l = c.loop-i in
+    let q = c.args in
+    let s = q.file.now in
+    ap counted (sym (l.invariant.4 rule ruled ∙ end_extra rule s (records_from s q.count 4 (start_of q.count)) (q.count - l.i) l.row l.end (omega arith) c.if-end-file.true))
+
+pub returns : goal.returns
+returns c =
+    λ rule ruled.
+    let l = c.loop-i in
+    let q = c.args in
+    let s = q.file.now in
+    let all = records_from s q.count 4 (start_of q.count) in
+    ap given (sym (length_records s q.count 4 (start_of q.count)))
+    ∙ ap counted (sym (l.invariant.4 rule ruled ∙ end_none rule s all (q.count - l.i) l.row l.end (omega arith) (omega arith)))

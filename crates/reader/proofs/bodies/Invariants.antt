@@ -1,0 +1,18 @@
+-- `bodies` meets its contract: what is left to test answers for all of it; a body's own offset is where the one before it
+-- ended, since the contents are right. Assumes nothing.
+use mathlib.Core.Path.{◌≡◌}
+use Prim.Native.Nat.{ℕ, ◌+◌, ◌*◌, ◌-◌, ◌≤◌}
+use lib.IntN.{ℤ}
+use lib.ListN.{length}
+use Rattle.watchfile.specs.Format.{DewRule, rows_fields, start_of}
+use Rattle.watchfile.proofs.FieldLaws.{Passed}
+use Rattle.reader.proofs.bodies.Given as goal
+
+abbrev pub invariant-loop-i : goal.invariant-loop-i
+invariant-loop-i l =
+    (l.i ≤ l.count) × (l.row ≡ 4 + 8 * l.i) × (l.end ≤ length l.file)
+    × ((before : ℕ) × Passed (length l.file) (rows_fields l.file (l.count - l.i) l.row l.end before))
+    × ((rule : ℕ → ℤ) → DewRule rule → left l.file l.count rule l.count 4 (start_of l.count) ≡ left l.file l.count rule (l.count - l.i) l.row l.end)
+
+abbrev pub decreases-loop-i : goal.decreases-loop-i
+decreases-loop-i l = l.count - l.i

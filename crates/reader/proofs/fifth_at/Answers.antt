@@ -1,0 +1,18 @@
+-- `fifth_at` meets its contract: humidity alone has the field. Assumes nothing.
+use mathlib.Core.Path.{ap, ◌∙◌}
+use native.Mathlib.Omega.{arith}
+use borrow.Author.Tests.{eq-eqb, ne_eqb}
+use Rattle.number.proofs.SingleAnswers.{kept_by}
+use Rattle.octets.specs.Bytes.{signed16}
+use Rattle.watchfile.specs.Rules.{size_of}
+use Rattle.reader.proofs.fifth_at.Goals as goal
+
+pub get16-requires : goal.get16-requires
+get16-requires c = omega (arith, ap size_of c.if-kind-eq4.true)
+
+pub returns-then-kind-eq4 : goal.returns-then-kind-eq4
+returns-then-kind-eq4 c =
+    rw (eq-eqb _ _ c.if-kind-eq4.true, kept_by (c.signed.ensures ∙ ap signed16 c.get16.ensures))
+
+pub returns : goal.returns
+returns c = rw (ne_eqb _ _ c.if-kind-eq4.false)

@@ -1,0 +1,58 @@
+-- `find` meets its contract: test by test. Assumes nothing.
+use mathlib.Core.Path.{sym, ◌∙◌}
+use native.Mathlib.Omega.{arith}
+use lib.ListN.{get_or}
+use borrow.Author.Tests.{not-true, not-false}
+use Rattle.watchfile.specs.Format.{start_of}
+use Rattle.watchfile.proofs.FieldLaws.{size_most}
+use Rattle.reader.proofs.ContentsLaws.{part}
+use Rattle.reader.proofs.RecordLaws.{few, not_counted, row_cut, no_kind, body_cut, there}
+use Rattle.reader.proofs.find.Goals as goal
+
+pub returns-then-file-lt4 : goal.returns-then-file-lt4
+returns-then-file-lt4 c = few c.args.file.now c.args.i c.if-file-lt4.true
+
+pub overflow_cast-file : goal.overflow_cast-file
+overflow_cast-file c = omega (arith, c.shared_slice_known-2-1.given 3)
+
+pub returns-then-i-file : goal.returns-then-i-file
+returns-then-i-file c = let q = c.args in not_counted q.file.now q.i c.if-i-file.true
+
+pub overflow_mul-row : goal.overflow_mul-row
+overflow_mul-row c = omega (arith, c.shared_slice_known-2-1.given 3)
+
+pub overflow_add-row : goal.overflow_add-row
+overflow_add-row c = omega (arith, c.shared_slice_known-2-1.given 3)
+
+pub overflow_add-row-2 : goal.overflow_add-row-2
+overflow_add-row-2 c = omega (arith, c.shared_slice_known-2-1.given 3)
+
+pub returns-then-file-row : goal.returns-then-file-row
+returns-then-file-row c = let q = c.args in row_cut q.file.now q.i c.if-i-file.false c.if-file-row.true
+
+pub returns-then-not-kind_right : goal.returns-then-not-kind_right
+returns-then-not-kind_right c =
+    let q = c.args in
+    no_kind q.file.now q.i c.if-i-file.false c.if-file-row.false
+    (sym c.kind_right.ensures ∙ not-true _ c.if-not-kind_right.true-raw)
+
+pub overflow_add-at : goal.overflow_add-at
+overflow_add-at c =
+    let q = c.args in
+    omega (arith, size_most (get_or (part q.file.now (start_of q.i)) 0 0))
+
+pub returns-then-file-at : goal.returns-then-file-at
+returns-then-file-at c =
+    let q = c.args in
+    body_cut q.file.now q.i c.if-i-file.false c.if-file-row.false
+    (sym c.kind_right.ensures ∙ not-false _ c.if-not-kind_right.false-raw)
+    (omega (arith, c.if-file-at.true, c.?type_size.ensures, c.get16-at.ensures))
+
+pub returns : goal.returns
+returns c =
+    let q = c.args in
+    let end = c.before.before in
+    rw (c.get32-minute.ensures, c.get16-at.ensures)
+    (there q.file.now q.i c.if-i-file.false c.if-file-row.false
+    (sym c.kind_right.ensures ∙ not-false _ c.if-not-kind_right.false-raw)
+    (omega (arith, c.if-file-at.false, c.?type_size.ensures, c.get16-at.ensures)))

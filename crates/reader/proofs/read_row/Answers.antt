@@ -1,0 +1,67 @@
+-- `read_row` meets its contract: field by field, each answer is that of the fields that are left. Assumes nothing.
+use mathlib.Core.Path.{◌≡◌, sym, ap, ◌∙◌}
+use Prim.Native.Nat.{ℕ}
+use lib.ListN.{drop, get_or}
+use borrow.Author.Tests.{eq-eqb, ne_eqb, not-true, not-false}
+use Rattle.number.specs.Refusal.{Answer, given}
+use Rattle.watchfile.specs.Rules.{minute_right}
+use Rattle.watchfile.specs.Format.{row_fields}
+use Rattle.watchfile.proofs.FieldLaws.{cut, wrong, right, none}
+use Rattle.reader.specs.Work.{found, row_of}
+use Rattle.reader.specs.declared.Row.{Row}
+use Rattle.reader.proofs.read_row.Goals as goal
+
+-- what the fields come to from the k-th on
+abbrev from : goal.at.Start → ℕ → Answer ℕ Row
+from q k = let s = q.args.s.now in found s (drop k (row_fields s q.args.next q.args.before)) (row_of s)
+
+past-kind : (c : goal.at.Else-not-kind_right) → from c.before.before.before.before.before 0 ≡ from c.before.before.before.before.before 1
+past-kind c =
+    right _ _ _ _ c.if-s-lt1.false (sym c.kind_right.ensures ∙ not-false _ c.if-not-kind_right.false-raw)
+
+past-zero : (c : goal.at.Else-s-ne0) → let q = c.before.before.before.before.before.before.before.before in from q 0 ≡ from q 2
+past-zero c = past-kind c.before.before.before ∙ right _ _ _ _ c.if-s-lt2.false (eq-eqb _ _ c.if-s-ne0.false)
+
+past-offset : (c : goal.at.Else-offset-next) → let q = c.before.before.before.before.before.before.before.before.before.before.before in from q 0 ≡ from q 3
+past-offset c =
+    past-zero c.before.before.before
+    ∙ right _ _ _ _ c.if-s-lt4.false (eq-eqb _ _ (sym c.get16-offset.ensures ∙ c.if-offset-next.false))
+
+pub returns-then-s-lt1 : goal.returns-then-s-lt1
+returns-then-s-lt1 c = sym (cut _ _ _ _ c.if-s-lt1.true)
+
+pub returns-then-not-kind_right : goal.returns-then-not-kind_right
+returns-then-not-kind_right c = sym (wrong _ _ _ _ c.if-s-lt1.false (sym c.kind_right.ensures ∙ not-true _ c.if-not-kind_right.true-raw))
+
+pub returns-then-s-lt2 : goal.returns-then-s-lt2
+returns-then-s-lt2 c = sym (past-kind c.before ∙ cut _ _ _ _ c.if-s-lt2.true)
+
+pub returns-then-s-ne0 : goal.returns-then-s-ne0
+returns-then-s-ne0 c = sym (past-kind c.before.before.before ∙ wrong _ _ _ _ c.if-s-lt2.false (ne_eqb _ _ c.if-s-ne0.true))
+
+pub returns-then-s-lt4 : goal.returns-then-s-lt4
+returns-then-s-lt4 c = sym (past-zero c.before ∙ cut _ _ _ _ c.if-s-lt4.true)
+
+pub returns-then-offset-next : goal.returns-then-offset-next
+returns-then-offset-next c =
+    sym (past-zero c.before.before.before
+    ∙ wrong _ _ _ _ c.if-s-lt4.false (ne_eqb _ _ (λ e. c.if-offset-next.true (c.get16-offset.ensures ∙ e))))
+
+pub returns-then-s-lt8 : goal.returns-then-s-lt8
+returns-then-s-lt8 c = sym (past-offset c.before ∙ cut _ _ _ _ c.if-s-lt8.true)
+
+pub returns-then-minute_right : goal.returns-then-minute_right
+returns-then-minute_right c =
+    let is = c.get32-minute.ensures in
+    let kind = get_or c.args.s.now 0 0 in
+    let rule = sym (ap (minute_right c.args.before kind) is) ∙ sym c.minute_right.ensures ∙ c.if-minute_right.true in
+    let row : ℕ → Row = λ m. record { kind = kind; minute = m } in
+    ap (λ (m : ℕ). given (row m)) is
+    ∙ sym (past-offset c.before.before.before.before ∙ right _ _ _ _ c.if-s-lt8.false rule ∙ none _ _)
+
+pub returns : goal.returns
+returns c =
+    let is = c.get32-minute.ensures in
+    let kind = get_or c.args.s.now 0 0 in
+    let rule = sym (ap (minute_right c.args.before kind) is) ∙ sym c.minute_right.ensures ∙ c.if-minute_right.false in
+    sym (past-offset c.before.before.before.before ∙ wrong _ _ _ _ c.if-s-lt8.false rule)

@@ -1,0 +1,25 @@
+-- `points_rise` meets its contract: what is left to test answers for the whole. Assumes nothing.
+use mathlib.Core.Path.{sym, ap, ◌∙◌}
+use Prim.Native.Nat.{◌-◌}
+use native.Mathlib.Omega.{arith}
+use native.Mathlib.Nat.{sub-zero}
+use borrow.Author.Rules.{rules}
+use borrow.Author.Tests.{not-true, not-false}
+use Rattle.settings.specs.Settings.{every}
+use Rattle.settings.proofs.EveryLaws.{passed, failed, done}
+use Rattle.settings.proofs.points_rise.Goals as goal
+
+pub loop-i-init : goal.loop-i-init
+loop-i-init c = (search rules, ap (every _ 0) (sub-zero _))
+
+pub returns-then-not-rises : goal.returns-then-not-rises
+returns-then-not-rises c =
+    sym (sym c.loop-i.invariant.1 ∙ failed _ c.loop-i.i (c.args.n - 1) (omega arith) (sym c.rises.ensures ∙ not-true _ c.if-not-rises.true-raw))
+
+pub loop-i-preserved : goal.loop-i-preserved
+loop-i-preserved c =
+    (search rules, passed _ c.loop-i.i (c.args.n - 1) (omega arith) (sym c.rises.ensures ∙ not-false _ c.if-not-rises.false-raw) ∙ c.loop-i.invariant.1)
+
+pub returns : goal.returns
+returns c =
+    sym (sym c.loop-i.invariant.1 ∙ done _ c.loop-i.i (c.args.n - 1) (omega arith))

@@ -1,0 +1,26 @@
+-- `write` meets its contract: the words hold the records. Assumes nothing.
+use mathlib.Core.Path.{◌≡◌, refl}
+use Prim.Native.Nat.{◌*◌}
+use native.Mathlib.Omega.{arith}
+use lib.ListN.{length, length-take}
+use Rattle.watchlog.proofs.LaidLaws.{wrote_first}
+use Rattle.watchlog.proofs.write.Goals as goal
+
+pub overflow_mul-end : goal.overflow_mul-end
+overflow_mul-end c = omega (arith, c.smaller-end.ensures)
+
+pub slice_bounds-words-end : goal.slice_bounds-words-end
+slice_bounds-words-end c = omega (arith, c.smaller-end.ensures, c.words_of-words.ensures.long)
+
+pub slice_bounds-write-end : goal.slice_bounds-write-end
+slice_bounds-write-end c = omega (arith, c.smaller-end.ensures, c.words_of-words.ensures.long, length-take (7 * c.smaller-end.result) c.words_of-words.result)
+
+pub returns : goal.returns
+returns c =
+    λ rule ruled.
+    let n : length c.args.records ≡ 48 = c.?good.1.0.1.0.1 in
+    let words = c.words_of-words in
+    let few = c.smaller-end in
+    let w = c.write in
+    wrote_first rule c.args.records words.result n words.ensures c.args.count few.result (length c.args.file.now) few.ensures
+    c.args.file.now w.last.0 w.result refl (w.ensures rule ruled)

@@ -1,0 +1,37 @@
+-- `write_with` meets its contract: one of the same rank at the place is replaced, and else the others make room. Assumes nothing.
+use mathlib.Core.Path.{◌≡◌, sym, ap, ◌∙◌}
+use mathlib.Core.List.{List}
+use mathlib.Core.Logic.{⊎_elim}
+use Prim.Native.Nat.{◌+◌}
+use native.Mathlib.Omega.{arith}
+use lib.ListN.{length}
+use Rattle.watchfile.specs.Format.{writing}
+use Rattle.watchfile.specs.declared.Record.{Record}
+use Rattle.watchlog.proofs.PlaceLaws.{leaves, set_written, push_written}
+use Rattle.watchlog.proofs.write_with.Goals as goal
+
+pub returns-then-rank_of-rank : goal.returns-then-rank_of-rank
+returns-then-rank_of-rank c =
+    λ rule ruled.
+    let q = c.args in
+    let n : length q.t2 ≡ 48 = c.well_formed.1.0.1.0.1 in
+    let rank = c.rank_of-rank in
+    let place = c.place_of-at in
+    let w = c.write in
+    leaves rule _ q.count q.file.now w.new.0 w.result c.written.result _ (w.ensures rule ruled) c.written.ensures
+    (set_written rule q.t2 n q.count c.requires q.r (length q.file.now) rank.result place.result rank.ensures place.ensures
+    c.if-at-count.true (sym c.rank_of.ensures ∙ c.if-rank_of-rank.true))
+
+pub returns : goal.returns
+returns c =
+    λ rule ruled.
+    let q = c.args in
+    let n : length q.t2 ≡ 48 = c.well_formed.1.0.1.0.1 in
+    let rank = c.rank_of-rank in
+    let place = c.place_of-at in
+    let w = c.write-2 in
+    let all = c.pushed in
+    leaves rule _ (q.count + 1) q.file.now w.new.0 w.result c.written-2.result _ (w.ensures rule ruled) c.written-2.ensures
+    (ap (λ (l : List Record). writing rule l (q.count + 1) (length q.file.now)) all.ensures
+    ∙ push_written rule q.t2 n q.count c.requires q.r (length q.file.now) rank.result place.result rank.ensures place.ensures
+    (λ l e. ⊎_elim (λ w. w.3.left (w.2.ensures ∙ e)) (λ w. omega arith) c.if-at-count.branch))
