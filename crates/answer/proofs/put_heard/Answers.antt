@@ -10,15 +10,13 @@ use Rattle.answer.proofs.put_heard.Goals as goal
 
 pub returns-in-Late : goal.returns-in-Late
 returns-in-Late c =
-    let late = c.in-Late.is in
-    let number : c.number-n.result ≡ 19 = c.number-n.ensures ∙ ap (λ (h : Hearing). numbered_in (heard_as h)) late in
-    rw late (rw number at c.put_refusal.ensures)
+    let number : c.number-n.result ≡ 19 = c.number-n.ensures ∙ ap (λ (h : Hearing). numbered_in (heard_as h)) c.in-Late.is in
+    rw c.in-Late.is (rw number at c.put_refusal.ensures)
 
 pub returns-in-NoCourse : goal.returns-in-NoCourse
 returns-in-NoCourse c =
-    let none = c.in-NoCourse.is in
-    let number : c.number-n.result ≡ 11 = c.number-n.ensures ∙ ap (λ (h : Hearing). numbered_in (heard_as h)) none in
-    rw none (rw number at c.put_refusal-in-NoCourse.ensures)
+    let number : c.number-n.result ≡ 11 = c.number-n.ensures ∙ ap (λ (h : Hearing). numbered_in (heard_as h)) c.in-NoCourse.is in
+    rw c.in-NoCourse.is (rw number at c.put_refusal-in-NoCourse.ensures)
 
 pub returns-in_default : goal.returns-in_default
 returns-in_default c =

@@ -35,13 +35,12 @@ returns-in-DryBulb c = λ t. rw c.in-DryBulb.is (omega (arith, c.biased-in-DryBu
 
 pub returns-in-WetBulb : goal.returns-in-WetBulb
 returns-in-WetBulb c =
-    let found = c.r-in-WetBulb-1.given in
-    λ t. rw found.1
+    λ t. rw c.in-WetBulb.is
     (omega (
       arith,
       c.pair_cell-in-WetBulb.ensures,
       c.number-in-WetBulb.ensures,
-      state-small found.0.0,
+      state-small c.in-WetBulb.s,
       c.half.ensures.0,
       c.biased-in-WetBulb.ensures.0,
     ))

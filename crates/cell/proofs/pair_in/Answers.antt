@@ -18,7 +18,7 @@ neither false = refl
 -- a direction that lies outside its limits, whatever the speed
 no-angle : (ship : Bool) (u : BarometerUnit) (m v : ℕ) → inside limits.degrees (pos (v / 65536 % 65536)) ≡ false → absent ≡ cell_says u (cond ship 3 2) m v
 no-angle true u m v e = rw (e, neither (inside limits.knots (pos (v % 65536))))
-no-angle false u m v e = rw (e, neither (inside limits.metresPerSecond (pos (v % 65536))))
+no-angle false u m v e = rw (e, neither (inside limits.metres_per_second (pos (v % 65536))))
 
 pub returns-then-not-holds : goal.returns-then-not-holds
 returns-then-not-holds c =
@@ -51,11 +51,11 @@ returns-then-holds-2 c =
       c.if-ship.false,
       speed,
       angle,
-      kept_inside limits.metresPerSecond c.holds-2.ensures (c.whole-2.ensures.value ∙ ap pos speed) c.if-holds-2.true,
+      kept_inside limits.metres_per_second c.holds-2.ensures (c.whole-2.ensures.value ∙ ap pos speed) c.if-holds-2.true,
       kept_inside limits.degrees c.holds.ensures (c.whole.ensures.value ∙ ap pos angle) (not-false _ c.if-not-holds.false-raw),
     )
 
 pub returns : goal.returns
 returns c =
     let speed = c.half-speed.ensures.0 in
-    λ u m. rw (c.if-ship.false, kept_inside limits.metresPerSecond c.holds-2.ensures (c.whole-2.ensures.value ∙ ap pos speed) c.if-holds-2.false)
+    λ u m. rw (c.if-ship.false, kept_inside limits.metres_per_second c.holds-2.ensures (c.whole-2.ensures.value ∙ ap pos speed) c.if-holds-2.false)

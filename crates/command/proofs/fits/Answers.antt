@@ -28,8 +28,7 @@ pub returns-in-NoNumber : goal.returns-in-NoNumber
 returns-in-NoNumber c =
     let q = c.args in
     let word = q.word.now in
-    let to = c.field_end-to in
-    let e : part word 0 to.result ≡ field word = ap (part word 0) to.ensures ∙ sym (before_end colon word 0) in
+    let e : part word 0 c.field_end-to.result ≡ field word = ap (part word 0) c.field_end-to.ensures ∙ sym (before_end colon word 0) in
     let t = ap (told (get_or q.form.now 0 0)) (sym e) ∙ sym c.told.ensures ∙ c.in-NoNumber.is in
     sym (fits_picked q.form.now word (sym c.picks.ensures ∙ not-false _ c.if-not-picks.false-raw) t)
 
@@ -37,7 +36,6 @@ pub returns-in-Number : goal.returns-in-Number
 returns-in-Number c =
     let q = c.args in
     let word = q.word.now in
-    let to = c.field_end-to in
-    let e : part word 0 to.result ≡ field word = ap (part word 0) to.ensures ∙ sym (before_end colon word 0) in
+    let e : part word 0 c.field_end-to.result ≡ field word = ap (part word 0) c.field_end-to.ensures ∙ sym (before_end colon word 0) in
     let t = ap (told (get_or q.form.now 0 0)) (sym e) ∙ sym c.told.ensures ∙ c.in-Number.is in
     sym (fits_picked q.form.now word (sym c.picks.ensures ∙ not-false _ c.if-not-picks.false-raw) t)

@@ -47,16 +47,12 @@ loop-at-preserved c =
     let start = c.args in
     let l = c.loop-at in
     let bytes = start.bytes.now in
-    let end = c.smaller-end in
-    let h = c.hear in
-    let n = c.number-n in
-    let k = c.one_more in
-    let message = take (end.result - l.at) (drop l.at bytes) in
-    let rest = messages (drop end.result bytes) in
-    let cut = cut_on bytes l.at end.result c.loop-at-test.true end.ensures in (
+    let message = take (c.smaller-end.result - l.at) (drop l.at bytes) in
+    let rest = messages (drop c.smaller-end.result bytes) in
+    let cut = cut_on bytes l.at c.smaller-end.result c.loop-at-test.true c.smaller-end.ensures in (
       omega arith,
-      l.invariant.1 ∙ ap (heard_all l.store) cut ∙ sym (heard_on l.store h.new.0 message l.counts rest h.result n.result k.result h.ensures n.ensures k.ensures),
-      l.invariant.2 ∙ ap (λ (M : List (List ℕ)). counted_all l.store M l.counts) cut ∙ sym (counted_on l.store h.new.0 message l.counts rest h.result n.result k.result h.ensures n.ensures k.ensures),
+      l.invariant.1 ∙ ap (heard_all l.store) cut ∙ sym (heard_on l.store c.hear.new.store message l.counts rest c.hear.result c.number-n.result c.one_more.result c.hear.ensures c.number-n.ensures c.one_more.ensures),
+      l.invariant.2 ∙ ap (λ (M : List (List ℕ)). counted_all l.store M l.counts) cut ∙ sym (counted_on l.store c.hear.new.store message l.counts rest c.hear.result c.number-n.result c.one_more.result c.hear.ensures c.number-n.ensures c.one_more.ensures),
     )
 
 pub returns : goal.returns

@@ -8,8 +8,7 @@ use Rattle.desk.proofs.pressure_record.Goals as goal
 pub returns-then-not-within : goal.returns-then-not-within
 returns-then-not-within c =
     let start = c.args in
-    let g = c.r-1.given in
-    pressure_none start.minute start.r g.0.0 g.1 (sym c.within.ensures ∙ not-true _ c.if-not-within.true-raw)
+    pressure_none start.minute start.r c.in-Given.p c.in-Given.is (sym c.within.ensures ∙ not-true _ c.if-not-within.true-raw)
 
 pub overflow_cast-result : goal.overflow_cast-result
 overflow_cast-result c = let small = pressure_small c.in-Given.p.0.v (sym c.within.ensures ∙ not-false _ c.if-not-within.false-raw) in record { fits = omega (arith, c.size.ensures) }
@@ -17,5 +16,4 @@ overflow_cast-result c = let small = pressure_small c.in-Given.p.0.v (sym c.with
 pub returns-else-not-within : goal.returns-else-not-within
 returns-else-not-within c =
     let start = c.args in
-    let g = c.r-1.given in
-    pressure_some start.minute start.r g.0.0 g.1 c.size.result c.size.ensures (sym c.within.ensures ∙ not-false _ c.if-not-within.false-raw)
+    pressure_some start.minute start.r c.in-Given.p c.in-Given.is c.size.result c.size.ensures (sym c.within.ensures ∙ not-false _ c.if-not-within.false-raw)

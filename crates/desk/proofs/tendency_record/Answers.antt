@@ -9,14 +9,12 @@ use Rattle.desk.proofs.tendency_record.Goals as goal
 pub returns-then-not-within : goal.returns-then-not-within
 returns-then-not-within c =
     let start = c.args in
-    let g = c.r-1.given in
-    no_change start.minute start.r g.0.0 g.0.1.0 g.1 (sym c.within.ensures ∙ not-true _ c.if-not-within.true-raw)
+    no_change start.minute start.r c.in-Given.c c.in-Given.absent c.in-Given.is (sym c.within.ensures ∙ not-true _ c.if-not-within.true-raw)
 
 pub returns-then-absent-gt255 : goal.returns-then-absent-gt255
 returns-then-absent-gt255 c =
     let start = c.args in
-    let g = c.r-1.given in
-    no_absent start.minute start.r g.0.0 g.0.1.0 g.1 (sym c.within.ensures ∙ not-false _ c.if-not-within.false-raw) c.if-absent-gt255.true
+    no_absent start.minute start.r c.in-Given.c c.in-Given.absent c.in-Given.is (sym c.within.ensures ∙ not-false _ c.if-not-within.false-raw) c.if-absent-gt255.true
 
 pub keep-requires : goal.keep-requires
 keep-requires c = omega (arith, signed_small c.in-Given.c.0.v (sym c.within.ensures ∙ not-false _ c.if-not-within.false-raw))
@@ -24,5 +22,4 @@ keep-requires c = omega (arith, signed_small c.in-Given.c.0.v (sym c.within.ensu
 pub returns-else-absent-gt255 : goal.returns-else-absent-gt255
 returns-else-absent-gt255 c =
     let start = c.args in
-    let g = c.r-1.given in
-    tendency_some start.minute start.r g.0.0 g.0.1.0 g.1 c.keep.result c.keep.ensures (sym c.within.ensures ∙ not-false _ c.if-not-within.false-raw) (search rules)
+    tendency_some start.minute start.r c.in-Given.c c.in-Given.absent c.in-Given.is c.keep.result c.keep.ensures (sym c.within.ensures ∙ not-false _ c.if-not-within.false-raw) (search rules)

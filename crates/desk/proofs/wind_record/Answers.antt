@@ -6,17 +6,14 @@ use Rattle.desk.proofs.wind_record.Goals as goal
 pub returns-then-v-gt65535 : goal.returns-then-v-gt65535
 returns-then-v-gt65535 c =
     let start = c.args in
-    let g = c.r-1.given in
-    no_speed_lem start.minute start.r g.0.0 g.0.1.0 g.1 c.if-v-gt65535.true
+    no_speed_lem start.minute start.r c.in-Given.v c.in-Given.d c.in-Given.is c.if-v-gt65535.true
 
 pub returns-then-d-gt65535 : goal.returns-then-d-gt65535
 returns-then-d-gt65535 c =
     let start = c.args in
-    let g = c.r-1.given in
-    no_direction start.minute start.r g.0.0 g.0.1.0 g.1 (search rules) c.if-d-gt65535.true
+    no_direction start.minute start.r c.in-Given.v c.in-Given.d c.in-Given.is (search rules) c.if-d-gt65535.true
 
 pub returns-else-d-gt65535 : goal.returns-else-d-gt65535
 returns-else-d-gt65535 c =
     let start = c.args in
-    let g = c.r-1.given in
-    wind_some start.minute start.r g.0.0 g.0.1.0 g.1 (search rules) (search rules)
+    wind_some start.minute start.r c.in-Given.v c.in-Given.d c.in-Given.is (search rules) (search rules)

@@ -13,12 +13,13 @@ use Rattle.humidity.specs.Parts.{FiguresOf}
 use Rattle.humidity.proofs.VapourPressureLaws.{whole_e}
 use Rattle.humidity.proofs.MoistureLaws.{none}
 use Rattle.humidity.proofs.by_vapour.Goals as goal
+use Rattle.humidity.proofs.by_vapour.Goals.{After-at_most, After-at_most-2, After-size}
 
 -- the tests as the list has them
-under : (c : goal.at.After-at_most) (b : Bool) → c.at_most.result ≡ b → let x = c.args in le_z x.e.v (pos x.saturation) ≡ b
+under : (c : After-at_most) (b : Bool) → c.at_most.result ≡ b → let x = c.args in le_z x.e.v (pos x.saturation) ≡ b
 under c b h = ap (le_z c.args.e.v) (sym c.whole.ensures.value) ∙ sym c.at_most.ensures ∙ h
 
-enough : (c : goal.at.After-at_most-2) (b : Bool) → c.at_most-2.result ≡ b → le_z (pos lowest_vapour) c.args.e.v ≡ b
+enough : (c : After-at_most-2) (b : Bool) → c.at_most-2.result ≡ b → le_z (pos lowest_vapour) c.args.e.v ≡ b
 enough c b h =
     ap (λ (z : ℤ). le_z z c.args.e.v) (sym c.whole-least.ensures.value) ∙ sym c.at_most-2.ensures ∙ h
 
@@ -38,7 +39,7 @@ sized e d n h u l =
       most = leb-true n d (ap (λ (z : ℤ). le_z z (pos d)) is ∙ u);
     }
 
-by_size : (c : goal.at.After-size) → let x = c.args in Size x.e.v x.saturation c.size.result
+by_size : (c : After-size) → let x = c.args in Size x.e.v x.saturation c.size.result
 by_size c =
     let second = c.before.before in
     let first = second.before.before.before in
@@ -46,32 +47,32 @@ by_size c =
 
 pub returns-then-not-at_most : goal.returns-then-not-at_most
 unfolding answer
-returns-then-not-at_most c = record { figures = none; first = rw (under c.before _ (not-true _ c.if-not-at_most.true-raw)); worked = λ e. impossible (cc) }
+returns-then-not-at_most c = record { figures = none; first = rw (under (goal.at.returns-then-not-at_most c).After-at_most _ (not-true _ c.if-not-at_most.true-raw)); worked = λ e. impossible (cc) }
 
 pub returns-then-not-at_most-2 : goal.returns-then-not-at_most-2
 unfolding answer
 returns-then-not-at_most-2 c =
-    let second = c.before in
+    let second = (goal.at.returns-then-not-at_most-2 c).After-at_most-2 in
     record {
       figures = none;
-      first = rw (under second.before.before.before _ (not-false _ c.if-not-at_most.false-raw), enough second _ (not-true _ c.if-not-at_most-2.true-raw));
+      first = rw (under (goal.at.returns-then-not-at_most-2 c).After-at_most _ (not-false _ c.if-not-at_most.false-raw), enough second _ (not-true _ c.if-not-at_most-2.true-raw));
       worked = λ e. impossible (cc);
     }
 
 pub overflow_cast-size : goal.overflow_cast-size
-overflow_cast-size c = record { fits = omega (arith, (by_size c).most) }
+overflow_cast-size c = record { fits = omega (arith, (by_size (goal.at.overflow_cast-size c).After-size).most) }
 
 pub figures-requires : goal.figures-requires
-figures-requires c = let z = by_size c in (z.least, z.most, c.requires)
+figures-requires c = let z = by_size (goal.at.figures-requires c).After-size in (z.least, z.most, c.requires)
 
 pub returns : goal.returns
 unfolding answer
 returns c =
-    let second = c.before.before.before in
-    let first = second.before.before.before in
+    let second = (goal.at.returns c).After-at_most-2 in
+    let first = (goal.at.returns c).After-at_most in
     let x = c.args in
     record {
       figures = c.figures.result;
       first = rw (under first _ (not-false _ c.if-not-at_most.false-raw), enough second _ (not-false _ c.if-not-at_most-2.false-raw));
-      worked = λ g. subst (λ (e : ℤ). FiguresOf e x.saturation c.figures.result) (by_size c.before).is c.figures.ensures;
+      worked = λ g. subst (λ (e : ℤ). FiguresOf e x.saturation c.figures.result) (by_size (goal.at.returns c).After-size).is c.figures.ensures;
     }

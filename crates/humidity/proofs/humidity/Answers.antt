@@ -19,6 +19,7 @@ use Rattle.humidity.specs.Parts.{Decided}
 use Rattle.humidity.proofs.VapourPressureLaws.{within}
 use Rattle.humidity.proofs.MoistureLaws.{outside}
 use Rattle.humidity.proofs.humidity.Goals as goal
+use Rattle.humidity.proofs.humidity.Goals.{After-by_state, After-others_hold, Else-not-others_hold, In-Entries-2, Start}
 
 -- what was found is what the call promised of it
 entries : (dry wet : ℤ) (r : Saturations) (d w : VapourPressure) → r ≡ Entries d w → AreSaturations dry wet r → AreSaturations dry wet (Entries d w)
@@ -28,36 +29,35 @@ decided : (s : BulbState) (dry wet p a : ℤ) (d : ℕ) (r v : Vapour) → r ≡
 decided s dry wet p a d r v h is = rw h at is
 
 -- both bulbs stand in the table over water
-module _ (c : goal.at.After-others_hold) where
-  abbrev found : tie.After-d
+module _ (c : After-others_hold) where
+  abbrev found : In-Entries-2
   found = c.before.before.before
 
-  abbrev start : tie.Start
+  abbrev start : Start
   start = found.before.before.before
 
-  stand : let x = start.args in AreSaturations x.dry.0.v x.wet.0.v (Entries found.d.given.0.0 found.d.given.0.1.0)
+  stand : let x = start.args in AreSaturations x.dry.0.v x.wet.0.v (Entries found.in-Entries.d found.in-Entries.w)
   stand =
       let x = start.args in
-      let sat = found.before.before.saturation in
-      entries x.dry.0.v x.wet.0.v sat.result found.d.given.0.0 found.d.given.0.1.0 found.d.given.1 sat.ensures
+      entries x.dry.0.v x.wet.0.v found.saturation.result found.in-Entries.d found.in-Entries.w found.in-Entries.is found.saturation.ensures
 
   limits : {b : Bool} → c.others_hold.result ≡ b → let x = start.args in within_limits x.dry.0.v x.wet.0.v x.pressure.0.v x.a.0.v ≡ b
   limits e =
       rw stand.0 (ap (λ (z : ℤ). inside recorded_pressure start.args.pressure.0.v && inside psychrometer z) (sym c.number.ensures.value) ∙ sym c.others_hold.ensures ∙ e)
 
 -- and the others within their limits
-module _ (c : goal.at.Else-not-others_hold) where
-  abbrev from : tie.Start
+module _ (c : Else-not-others_hold) where
+  abbrev from : Start
   from = start c.before
 
   abbrev dry-entry : ℕ
-  dry-entry = (found c.before).d.given.0.0.0
+  dry-entry = (found c.before).d-1.given.0.0.0
 
   inside-all : let x = from.args in within_limits x.dry.0.v x.wet.0.v x.pressure.0.v x.a.0.v ≡ true
   inside-all = limits c.before (not-false _ c.if-not-others_hold.false-raw)
 
 -- what the wet bulb came to
-module _ (c : goal.at.After-by_state) where
+module _ (c : After-by_state) where
   wet-bulb : (v : Vapour) → c.by_state.result ≡ v → let x = (from c.before).args in
       Decided x.state x.dry.0.v x.wet.0.v x.pressure.0.v x.a.0.v (dry-entry c.before) v
   wet-bulb v h =
@@ -73,29 +73,28 @@ returns-in_default c =
 
 pub returns-then-not-others_hold : goal.returns-then-not-others_hold
 returns-then-not-others_hold c =
-    let x = (start c.before).args in
-    outside x.state x.dry.0.v x.wet.0.v x.pressure.0.v x.a.0.v (limits c.before (not-true _ c.if-not-others_hold.true-raw))
+    let x = (start (goal.at.returns-then-not-others_hold c).After-others_hold).args in
+    outside x.state x.dry.0.v x.wet.0.v x.pressure.0.v x.a.0.v (limits (goal.at.returns-then-not-others_hold c).After-others_hold (not-true _ c.if-not-others_hold.true-raw))
 
 pub by_state-requires : goal.by_state-requires
-by_state-requires c = record { limits = inside-all c; near_wet = (stand c.before).2 }
+by_state-requires c = record { limits = inside-all (goal.at.by_state-requires c).Else-not-others_hold; near_wet = (stand (goal.at.by_state-requires c).After-others_hold).2 }
 
 pub by_vapour-requires : goal.by_vapour-requires
 by_vapour-requires c =
-    let at = c.before.before.before.before in
+    let at = (goal.at.by_vapour-requires c).Else-not-others_hold in
     let x = (from at).args in
     (entry_range x.dry.0.v (dry-entry at)
-    (within x.dry.0.v x.wet.0.v x.pressure.0.v x.a.0.v (inside-all at)).in_dry (stand at.before).1).1
+    (within x.dry.0.v x.wet.0.v x.pressure.0.v x.a.0.v (inside-all at)).in_dry (stand (goal.at.by_vapour-requires c).After-others_hold).1).1
 
 pub returns-in-Worked : goal.returns-in-Worked
 returns-in-Worked c =
-    let e = c.before.before in
-    wet-bulb e.before.before _ c.in-Worked.is c.by_vapour.result c.by_vapour.ensures
+    wet-bulb (goal.at.returns-in-Worked c).After-by_state _ c.in-Worked.is c.by_vapour.result c.by_vapour.ensures
 
 pub returns-in-WetAboveDry : goal.returns-in-WetAboveDry
-returns-in-WetAboveDry c = wet-bulb c.before.before _ c.in-WetAboveDry.is
+returns-in-WetAboveDry c = wet-bulb (goal.at.returns-in-WetAboveDry c).After-by_state _ c.in-WetAboveDry.is
 
 pub returns-in-TooWarmForIce : goal.returns-in-TooWarmForIce
-returns-in-TooWarmForIce c = wet-bulb c.before.before _ c.in-TooWarmForIce.is
+returns-in-TooWarmForIce c = wet-bulb (goal.at.returns-in-TooWarmForIce c).After-by_state _ c.in-TooWarmForIce.is
 
 pub returns-in-UnknownOutsideRange : goal.returns-in-UnknownOutsideRange
-returns-in-UnknownOutsideRange c = wet-bulb c.before.before _ c.in-UnknownOutsideRange.is
+returns-in-UnknownOutsideRange c = wet-bulb (goal.at.returns-in-UnknownOutsideRange c).After-by_state _ c.in-UnknownOutsideRange.is

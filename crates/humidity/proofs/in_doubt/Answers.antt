@@ -15,8 +15,9 @@ use Rattle.humidity.proofs.VapourPressureLaws.{Within, within, sized}
 use Rattle.humidity.proofs.MoistureLaws.{no_doubt, by_vapour_lem}
 use Rattle.humidity.proofs.IceLaws.{ice_range, cold}
 use Rattle.humidity.proofs.in_doubt.Goals as goal
+use Rattle.humidity.proofs.in_doubt.Goals.{After-over, After-over-2, Start}
 
-module _ (c : goal.at.Start) where
+module _ (c : Start) where
   in-limits : let x = c.args in Within x.dry.v x.wet.v x.pressure.v x.a.v
   in-limits = let x = c.args in within x.dry.v x.wet.v x.pressure.v x.a.v c.requires.0.limits
 
@@ -42,7 +43,7 @@ returns-then-not-leaves_doubt c =
 
 pub exact-over_ice-requires : goal.exact-over_ice-requires
 exact-over_ice-requires c =
-    let start = c.before.before in
+    let start = (goal.at.exact-over_ice-requires c).Start in
     let x = c.args in
     (ice_range x.wet.v x.i c.requires.1, omega arith, sizes start)
 
@@ -52,20 +53,19 @@ over-requires c = (omega arith, omega (arith, c.exact-over_ice.ensures.size))
 pub returns-then-at_most : goal.returns-then-at_most
 unfolding vapour_pressure
 returns-then-at_most c =
-    let over = c in
+    let over = (goal.at.returns-then-at_most c).After-over in
     let ordered = over.before.before in
-    let tested = ordered.before.before in
-    let start = tested.before.before in
+    let start = (goal.at.returns-then-at_most c).Start in
     decide start (ap not (sym c.leaves_doubt.ensures) ∙ c.if-not-leaves_doubt.false-raw) c.over.result.v d m
     (rw (sym c.at_most.ensures ∙ c.if-at_most.true) (c.over.ensures.value ∙ ap (λ (z : ℤ). rounded z parts) c.exact-over_ice.ensures.value))
     near is
 
 pub water_factor-requires : goal.water_factor-requires
-water_factor-requires c = (sizes c.before.before.before.before.before).size_wet
+water_factor-requires c = (sizes (goal.at.water_factor-requires c).Start).size_wet
 
 pub exact-over_water-requires : goal.exact-over_water-requires
 exact-over_water-requires c =
-    let start = c.before.before.before.before.before.before in
+    let start = (goal.at.exact-over_water-requires c).Start in
     let x = c.args in
     ((entry_range x.wet.v x.w (in-limits start).in_wet c.requires.0.near_wet).1, c.water_factor.ensures.size, sizes start)
 
@@ -78,12 +78,11 @@ over-requires-2 c = (omega arith, omega (arith, c.plus.ensures.size, c.exact-ove
 pub returns : goal.returns
 unfolding vapour_pressure
 returns c =
-    let over = c in
+    let over = (goal.at.returns c).After-over-2 in
     let mean = over.before in
     let water = mean.before in
     let ordered = water.before.before.before in
-    let tested = ordered.before.before in
-    let start = tested.before.before in
+    let start = (goal.at.returns c).Start in
     let x = c.args in
     decide start (ap not (sym c.leaves_doubt.ensures) ∙ c.if-not-leaves_doubt.false-raw) c.over-2.result.v d m
     (rw (sym c.at_most.ensures ∙ c.if-at_most.false)

@@ -11,8 +11,9 @@ use Rattle.humidity.specs.Parts.{Sized, IsByVapour}
 use Rattle.humidity.proofs.VapourPressureLaws.{Within, within, sized}
 use Rattle.humidity.proofs.MoistureLaws.{above, by_vapour_lem}
 use Rattle.humidity.proofs.on_water.Goals as goal
+use Rattle.humidity.proofs.on_water.Goals.{Start}
 
-module _ (c : goal.at.Start) where
+module _ (c : Start) where
   in-limits : let x = c.args in Within x.dry.v x.wet.v x.pressure.v x.a.v
   in-limits = let x = c.args in within x.dry.v x.wet.v x.pressure.v x.a.v c.requires.limits
 
@@ -26,11 +27,11 @@ returns-then-not-at_most c =
     (ap not (sym c.at_most.ensures) ∙ c.if-not-at_most.true-raw)
 
 pub water_factor-requires : goal.water_factor-requires
-water_factor-requires c = (sizes c.before.before).size_wet
+water_factor-requires c = (sizes (goal.at.water_factor-requires c).Start).size_wet
 
 pub exact-over_water-requires : goal.exact-over_water-requires
 exact-over_water-requires c =
-    let start = c.before.before.before in
+    let start = (goal.at.exact-over_water-requires c).Start in
     let x = c.args in
     ((entry_range x.wet.v x.w (in-limits start).in_wet c.requires.near_wet).1, c.water_factor.ensures.size, sizes start)
 

@@ -10,15 +10,16 @@ use Rattle.store.proofs.RecallLaws.{not_kept, is_kept}
 use Rattle.kept.specs.Kept.{figures_in, reading_in}
 use Rattle.kept.proofs.KeptLaws.{reading_unopened, reading_nowhere, reading_late, reading_absent, reading_there, kept_small}
 use Rattle.kept.proofs.reading.Goals as goal
+use Rattle.kept.proofs.reading.Goals.{After-recall, Else-not-is_store}
 
 -- once the tests before it have passed
-on : (c : goal.at.Else-not-is_store) → is_store c.args.store.now ≡ true
+on : (c : Else-not-is_store) → is_store c.args.store.now ≡ true
 on c = sym c.is_store.ensures ∙ not-false _ c.if-not-is_store.false-raw
 
-low : (c : goal.at.After-recall) → c.args.channel < CHANNELS
+low : (c : After-recall) → c.args.channel < CHANNELS
 low c = c.if-channel-ge6.false
 
-early : (c : goal.at.After-recall) → c.args.minute ≤ last_minute
+early : (c : After-recall) → c.args.minute ≤ last_minute
 early c = leb-true c.args.minute last_minute (sym c.holds.ensures ∙ not-false _ c.if-not-holds.false-raw)
 
 pub returns-then-not-is_store : goal.returns-then-not-is_store
@@ -28,37 +29,36 @@ returns-then-not-is_store c =
 
 pub returns-then-channel-ge6 : goal.returns-then-channel-ge6
 returns-then-channel-ge6 c =
-    let at = c.before.before in
+    let at = (goal.at.returns-then-channel-ge6 c).Else-not-is_store in
     let a = c.args in
     (c.refused-then-channel-ge6.ensures ∙ sym (ap reading_in (reading_nowhere a.store.now a.channel (on at) a.minute c.if-channel-ge6.true)), refl)
 
 pub returns-then-not-holds : goal.returns-then-not-holds
 returns-then-not-holds c =
-    let at = c.before.before in
     let a = c.args in
     let late = leb-false a.minute last_minute (sym c.holds.ensures ∙ not-true _ c.if-not-holds.true-raw) in
-    (c.refused-then-not-holds.ensures ∙ sym (ap reading_in (reading_late a.store.now a.channel (on at.before.before) c.if-channel-ge6.false a.minute late)), refl)
+    (c.refused-then-not-holds.ensures ∙ sym (ap reading_in (reading_late a.store.now a.channel (on (goal.at.returns-then-not-holds c).Else-not-is_store) c.if-channel-ge6.false a.minute late)), refl)
 
 pub figures_of-requires : goal.figures_of-requires
 figures_of-requires c =
-    let at = c.before.before.before in
+    let at = (goal.at.figures_of-requires c).After-recall in
     let a = c.args in
     kept_small a.store.now a.channel a.minute c.in-Kept.r (low at) (is_kept a.store.now a.channel a.minute c.recall.ensures c.in-Kept.is)
 
 pub returns-in-Missing : goal.returns-in-Missing
 returns-in-Missing c =
-    let at = c.before.before.before in
+    let at = (goal.at.returns-in-Missing c).After-recall in
     let a = c.args in
     let none = not_kept a.store.now a.channel a.minute c.recall.ensures c.in-Missing.is in
-    (c.refused-in-Missing.ensures ∙ sym (ap reading_in (reading_absent a.store.now a.channel (on at.before.before.before.before) (low at) a.minute (early at) none)), refl)
+    (c.refused-in-Missing.ensures ∙ sym (ap reading_in (reading_absent a.store.now a.channel (on (goal.at.returns-in-Missing c).Else-not-is_store) (low at) a.minute (early at) none)), refl)
 
 pub returns-in-Kept : goal.returns-in-Kept
 returns-in-Kept c =
-    let at = c.before.before.before.before in
+    let at = (goal.at.returns-in-Kept c).After-recall in
     let a = c.args in
     let is = is_kept a.store.now a.channel a.minute c.recall.ensures c.in-Kept.is in (
       c.figures_of.ensures a.minute
           ∙ sym (ap figures_in is)
-          ∙ sym (ap reading_in (reading_there a.store.now a.channel (on at.before.before.before.before) (low at) a.minute (early at) (ap is_present is))),
+          ∙ sym (ap reading_in (reading_there a.store.now a.channel (on (goal.at.returns-in-Kept c).Else-not-is_store) (low at) a.minute (early at) (ap is_present is))),
       refl,
     )

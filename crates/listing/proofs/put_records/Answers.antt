@@ -20,8 +20,7 @@ pub loop-i-preserved : goal.loop-i-preserved
 loop-i-preserved c =
     let l = c.loop-i in
     let q = c.args in
-    let put = c.put_record-place in
-    let p = subst (λ (f : Figures). Put l.text put.new.0 l.place (figures_line f) put.result) c.record_at.ensures put.ensures in
+    let p = subst (λ (f : Figures). Put l.text c.put_record-place.new.text l.place (figures_line f) c.put_record-place.result) c.record_at.ensures c.put_record-place.ensures in
     let z = put_inside p in
     (search rules, omega arith, z.0 ∙ l.invariant.2, λ after k r. l.invariant.3 after k (put_line q.file.now q.count l.i c.loop-i-test.true p r))
 

@@ -13,7 +13,7 @@ use Rattle.message.proofs.apparent_wind.Goals as goal
 
 pub natural-requires : goal.natural-requires
 natural-requires c =
-    let l = limits.metresPerSecond in
+    let l = limits.metres_per_second in
     omega (arith, within_size l.low l.high c.args.n.v 750 (lit≤ tt) (lit≤ tt) (sym c.holds.ensures ∙ c.if-holds.true))
 
 pub natural-requires-then-holds-2 : goal.natural-requires-then-holds-2
@@ -28,18 +28,18 @@ returns-then-holds-2 c =
     let a = start.a.v in
     let i = sym c.holds.ensures ∙ c.if-holds.true in
     let j = sym c.holds-then-holds.ensures ∙ c.if-holds-2.true in
-    let speed : pos c.natural.result ≡ z = ap pos c.natural.ensures ∙ natural 0 (limits.metresPerSecond).high z i in
+    let speed : pos c.natural.result ≡ z = ap pos c.natural.ensures ∙ natural 0 (limits.metres_per_second).high z i in
     let angle : pos c.keep.result.0 ≡ compass a =
     ap pos c.keep.ensures ∙ ap (λ (n : ℕ). pos (kept_direction n)) c.natural-then-holds-2.ensures ∙ ap compass (natural 0 (limits.degrees).high a j)
     in
-    two_given limits.metresPerSecond 2 start.minute.0 m/s z a (pos c.natural.result) (pos c.keep.result.0) speed angle i j
+    two_given limits.metres_per_second 2 start.minute.0 m/s z a (pos c.natural.result) (pos c.keep.result.0) speed angle i j
 
 pub returns-else-holds-2 : goal.returns-else-holds-2
 returns-else-holds-2 c =
     let start = c.args in
-    two_refused_angle limits.metresPerSecond 2 start.minute.0 m/s start.n.v start.a.v (sym c.holds-then-holds.ensures ∙ c.if-holds-2.false)
+    two_refused_angle limits.metres_per_second 2 start.minute.0 m/s start.n.v start.a.v (sym c.holds-then-holds.ensures ∙ c.if-holds-2.false)
 
 pub returns-else-holds : goal.returns-else-holds
 returns-else-holds c =
     let start = c.args in
-    two_refused limits.metresPerSecond 2 start.minute.0 m/s start.n.v start.a.v (sym c.holds.ensures ∙ c.if-holds.false)
+    two_refused limits.metres_per_second 2 start.minute.0 m/s start.n.v start.a.v (sym c.holds.ensures ∙ c.if-holds.false)

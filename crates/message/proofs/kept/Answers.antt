@@ -11,7 +11,7 @@ use Rattle.quantity.specs.declared.BarometerUnit.{BarometerUnit}
 use Rattle.quantity.specs.declared.BarometerUnit.TheVariants.{Hectopascals, Millimetres}
 use Rattle.message.specs.Value.{times_rounded}
 use Rattle.wire.specs.Kinds.{Sound}
-use Rattle.message.specs.Receive.{Figure, °C, m/s, kn, wick, none, Entry, pressure}
+use Rattle.message.specs.Receive.{Figure, °C, kn, wick, none, Entry, pressure}
 use Rattle.message.specs.Work.{capped, one_figure, two_figures}
 use Rattle.message.proofs.Keep.{Small, one_exact, two_exact}
 use Rattle.message.proofs.kept.Goals as goal
@@ -56,36 +56,30 @@ tenths-requires-in-WetBulb c = subst Sound c.in-WetBulb.is c.requires
 
 pub returns-in-Barometer : goal.returns-in-Barometer
 returns-in-Barometer c =
-    let m = c.m-1.given in
     let start = c.args in
-    rw m.1 (one (pressure_limits start.unit) (small start.unit) 0 start.minute.0 (pressure start.unit) none m.0.0 c.barometer.ensures c.tenths.ensures)
+    rw c.in-Barometer.is (one (pressure_limits start.unit) (small start.unit) 0 start.minute.0 (pressure start.unit) none c.in-Barometer.x c.barometer.ensures c.tenths.ensures)
 
 pub returns-in-Wheelhouse : goal.returns-in-Wheelhouse
 returns-in-Wheelhouse c =
-    let m = c.m-in-Wheelhouse-1.given in
     let start = c.args in
-    rw m.1 (one limits.wheelhouse (lit< tt, lit< tt) 1 start.minute.0 °C none m.0.0 c.wheelhouse.ensures c.tenths-in-Wheelhouse.ensures)
+    rw c.in-Wheelhouse.is (one limits.wheelhouse (lit< tt, lit< tt) 1 start.minute.0 °C none c.in-Wheelhouse.x c.wheelhouse.ensures c.tenths-in-Wheelhouse.ensures)
 
 pub returns-in-ApparentWind : goal.returns-in-ApparentWind
 returns-in-ApparentWind c =
-    let m = c.m-in-ApparentWind-1.given in
     let start = c.args in
-    rw m.1 (two limits.metresPerSecond (lit< tt, lit< tt) 2 start.minute.0 m/s m.0.0.speed m.0.0.angle c.apparent_wind.ensures c.tenths-in-ApparentWind.ensures c.degrees.ensures)
+    rw c.in-ApparentWind.is (two limits.metres_per_second (lit< tt, lit< tt) 2 start.minute.0 c.m-in-ApparentWind-1.given/s c.in-ApparentWind.p.speed c.in-ApparentWind.p.angle c.apparent_wind.ensures c.tenths-in-ApparentWind.ensures c.degrees.ensures)
 
 pub returns-in-ShipMotion : goal.returns-in-ShipMotion
 returns-in-ShipMotion c =
-    let m = c.m-in-ShipMotion-1.given in
     let start = c.args in
-    rw m.1 (two limits.knots (lit< tt, lit< tt) 3 start.minute.0 kn m.0.0.speed m.0.0.angle c.ship_motion.ensures c.tenths-in-ShipMotion.ensures c.degrees-in-ShipMotion.ensures)
+    rw c.in-ShipMotion.is (two limits.knots (lit< tt, lit< tt) 3 start.minute.0 kn c.in-ShipMotion.p.speed c.in-ShipMotion.p.angle c.ship_motion.ensures c.tenths-in-ShipMotion.ensures c.degrees-in-ShipMotion.ensures)
 
 pub returns-in-DryBulb : goal.returns-in-DryBulb
 returns-in-DryBulb c =
-    let m = c.m-in-DryBulb-1.given in
     let start = c.args in
-    rw m.1 (one limits.bulb (lit< tt, lit< tt) 4 start.minute.0 °C none m.0.0 c.dry_bulb.ensures c.tenths-in-DryBulb.ensures)
+    rw c.in-DryBulb.is (one limits.bulb (lit< tt, lit< tt) 4 start.minute.0 °C none c.in-DryBulb.x c.dry_bulb.ensures c.tenths-in-DryBulb.ensures)
 
 pub returns-in-WetBulb : goal.returns-in-WetBulb
 returns-in-WetBulb c =
-    let m = c.m-in-WetBulb-1.given in
     let start = c.args in
-    rw m.1 (one limits.bulb (lit< tt, lit< tt) 5 start.minute.0 °C (wick m.0.0) m.0.1.0 c.wet_bulb.ensures c.tenths-in-WetBulb.ensures)
+    rw c.in-WetBulb.is (one limits.bulb (lit< tt, lit< tt) 5 start.minute.0 °C (wick c.in-WetBulb.state) c.in-WetBulb.x c.wet_bulb.ensures c.tenths-in-WetBulb.ensures)

@@ -24,9 +24,8 @@ on-message u m s e =
 
 pub kept-requires : goal.kept-requires
 kept-requires c =
-    let sent = c.minute-1.given in
-    decoded_sound c.args.bytes.now (record { minute = sent.0.0.0; message = sent.0.1.0 })
-    (sym c.decode.ensures ∙ ap decoded_as sent.1)
+    decoded_sound c.args.bytes.now (record { minute = c.in-At.minute.0; message = c.in-At.m })
+    (sym c.decode.ensures ∙ ap decoded_as c.in-At.is)
 
 pub returns-in-Refused : goal.returns-in-Refused
 returns-in-Refused c =
@@ -36,7 +35,6 @@ returns-in-Refused c =
 pub returns-in-At : goal.returns-in-At
 returns-in-At c =
     let start = c.args in
-    let sent = c.minute-1.given in
     c.kept.ensures
-    ∙ on-message start.unit start.bytes.now (record { minute = sent.0.0.0; message = sent.0.1.0 })
-    (sym c.decode.ensures ∙ ap decoded_as sent.1)
+    ∙ on-message start.unit start.bytes.now (record { minute = c.in-At.minute.0; message = c.in-At.m })
+    (sym c.decode.ensures ∙ ap decoded_as c.in-At.is)

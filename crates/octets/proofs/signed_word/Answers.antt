@@ -7,9 +7,10 @@ use borrow.Author.Tests.{lt-ltb, le-ltb}
 use Rattle.number.proofs.Machine.{fits64, size32}
 use Rattle.octets.proofs.WordLaws.{word_fits}
 use Rattle.octets.proofs.signed_word.Goals as goal
+use Rattle.octets.proofs.signed_word.Goals.{After-struct_told-1}
 
 -- the number that is left
-less : (c : goal.at.After-struct_told-1) → c.minus-less.result.v ≡ sub_ℕ c.args.word 4294967296
+less : (c : After-struct_told-1) → c.minus-less.result.v ≡ sub_ℕ c.args.word 4294967296
 less c = c.minus-less.ensures.value ∙ ap (λ (z : ℤ). z -ℤ pos 4294967296) c.whole-whole.ensures.value
 
 pub keep-requires : goal.keep-requires
@@ -22,10 +23,10 @@ pub overflow_cast-narrow : goal.overflow_cast-narrow
 overflow_cast-narrow c =
     let w = c.args.word in
     let f = word_fits w c.if-word-lt2147483648.false (omega arith) in
-    rw (less c, to_z-of_z (fits64 (sub_ℕ w 4294967296) (omega (arith, size32 (sub_ℕ w 4294967296) f)))) f
+    rw (less (goal.at.overflow_cast-narrow c).After-struct_told-1, to_z-of_z (fits64 (sub_ℕ w 4294967296) (omega (arith, size32 (sub_ℕ w 4294967296) f)))) f
 
 pub returns : goal.returns
 returns c =
     let w = c.args.word in
     let f = word_fits w c.if-word-lt2147483648.false (omega arith) in
-    rw (less c, to_z-of_z (fits64 (sub_ℕ w 4294967296) (omega (arith, size32 (sub_ℕ w 4294967296) f))), to_z-of_z f, le-ltb w 2147483648 c.if-word-lt2147483648.false)
+    rw (less (goal.at.returns c).After-struct_told-1, to_z-of_z (fits64 (sub_ℕ w 4294967296) (omega (arith, size32 (sub_ℕ w 4294967296) f))), to_z-of_z f, le-ltb w 2147483648 c.if-word-lt2147483648.false)

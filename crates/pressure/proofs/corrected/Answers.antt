@@ -11,10 +11,11 @@ use Rattle.block.specs.Words.{unit_of, setting_of}
 use Rattle.pressure.specs.Pressure.{temperature, height}
 use Rattle.pressure.proofs.SizeLaws.{temperature_stored}
 use Rattle.pressure.proofs.corrected.Goals as goal
+use Rattle.pressure.proofs.corrected.Goals.{After-height_correction-high, After-temperature_correction-warm, Start}
 
 -- the two corrections as they were worked: of the block's settings, and the first so large at most
-module _ (c : goal.at.After-temperature_correction-warm) where
-  abbrev start : tie.Start
+module _ (c : After-temperature_correction-warm) where
+  abbrev start : Start
   start = c.before.before
 
   abbrev words : List ℕ
@@ -24,34 +25,30 @@ module _ (c : goal.at.After-temperature_correction-warm) where
   warm-is = c.temperature_correction-warm.ensures ∙ ap (λ (z : ℤ). temperature z start.args.wheelhouse.0.v) c.coefficient.ensures
 
   warm-size : nat_abs c.temperature_correction-warm.result.v ≤ 19661
-  warm-size = le_trans (le_of_eq (ap nat_abs warm-is)) (temperature_stored (get_or words 3 0) start.args.wheelhouse.0.v start.pre.2)
+  warm-size = le_trans (le_of_eq (ap nat_abs warm-is)) (temperature_stored (get_or words 3 0) start.args.wheelhouse.0.v start.?pre.2)
 
-high_is : (c : goal.at.After-height_correction-high) → let s = c.args.store.now in
+high_is : (c : After-height_correction-high) → let s = c.args.store.now in
     c.height_correction-high.result.v ≡ height (unit_of s) (setting_of s 1) (setting_of s 2)
 high_is c =
     let s = c.args.store.now in
-    let u = c.unit in
-    let h = c.height in
-    let d = c.difference in
     c.height_correction-high.ensures.value
-    ∙ ap (λ (w : BarometerUnit). height w h.result.0.v d.result.0.v) u.ensures
-    ∙ ap (λ (z : ℤ). height (unit_of s) z d.result.0.v) h.ensures
-    ∙ ap (height (unit_of s) (setting_of s 1)) d.ensures
+    ∙ ap (λ (w : BarometerUnit). height w c.height.result.0.v c.difference.result.0.v) c.unit.ensures
+    ∙ ap (λ (z : ℤ). height (unit_of s) z c.difference.result.0.v) c.height.ensures
+    ∙ ap (height (unit_of s) (setting_of s 1)) c.difference.ensures
 
 pub plus-tenths-requires : goal.plus-tenths-requires
 plus-tenths-requires c =
-    let at = c.before.before.before.before.before in
-    omega (arith, warm-size at, c.plus.ensures.size, (start at).requires.0, (start at).requires.1)
+    let at = (goal.at.plus-tenths-requires c).After-temperature_correction-warm in
+    omega (arith, warm-size at, c.plus.ensures.size, (start at)requires.0, (start at)requires.1)
 
 pub times-requires : goal.times-requires
 times-requires c =
-    let at = c.before.before.before.before.before.before in
-    omega (arith, warm-size at, c.plus-tenths.ensures.size, c.plus.ensures.size, (start at).requires.0, (start at).requires.1)
+    let at = (goal.at.times-requires c).After-temperature_correction-warm in
+    omega (arith, warm-size at, c.plus-tenths.ensures.size, c.plus.ensures.size, (start at)requires.0, (start at)requires.1)
 
 pub plus-requires-2 : goal.plus-requires-2
 plus-requires-2 c =
-    let up = c.before.before.before in
-    let at = up.before.before.before.before in
+    let at = (goal.at.plus-requires-2 c).After-temperature_correction-warm in
     omega (
       arith,
       warm-size at,
@@ -59,14 +56,14 @@ plus-requires-2 c =
       c.times.ensures.size,
       c.plus-tenths.ensures.size,
       c.plus.ensures.size,
-      (start at).requires.0,
-      (start at).requires.1,
+      (start at)requires.0,
+      (start at)requires.1,
     )
 
 pub returns : goal.returns
 returns c =
-    let up = c.before.before.before.before in
-    let at = up.before.before.before.before in
+    let up = (goal.at.returns c).After-height_correction-high in
+    let at = (goal.at.returns c).After-temperature_correction-warm in
     record {
       value = rw (c.plus-2.ensures.value, c.times.ensures.value, c.plus-tenths.ensures.value, c.plus.ensures.value, warm-is at, high_is up);
       size = omega (
@@ -77,7 +74,7 @@ returns c =
         c.times.ensures.size,
         c.plus-tenths.ensures.size,
         c.plus.ensures.size,
-        (start at).requires.0,
-        (start at).requires.1,
+        (start at)requires.0,
+        (start at)requires.1,
       );
     }

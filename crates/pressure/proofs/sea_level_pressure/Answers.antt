@@ -12,23 +12,24 @@ use Rattle.pressure.specs.Pressure.{barometer_of, in_unit, reading_as}
 use Rattle.pressure.proofs.SizeLaws.{scale_stored, certified_stored}
 use Rattle.pressure.proofs.AnswerLaws.{none_there, worked, sea_unit, sea_limits, sea_outside, sea_given}
 use Rattle.pressure.proofs.sea_level_pressure.Goals as goal
+use Rattle.pressure.proofs.sea_level_pressure.Goals.{After-tenths_in-tenths, After-unit-unit, Else-not-holds, Else-not-in_unit}
 
 -- a reading in the barometer's unit at a temperature within its limits, as both were tested
-module _ (c : goal.at.After-tenths_in-tenths) where
-  abbrev second : tie.Else2
+module _ (c : After-tenths_in-tenths) where
+  abbrev second : Else-not-holds
   second = c.before
 
-  abbrev first : tie.Else1
+  abbrev first : Else-not-in_unit
   first = second.before.before.before
 
-  abbrev read : tie.After-unit
+  abbrev read : After-unit-unit
   read = first.before.before.before
 
-  in-unit : in_unit read.unit.result (reading_as read.before.args.reading) ≡ true
-  in-unit = sym first.before.in-unit.ensures ∙ not-false _ first.if1.left
+  in-unit : in_unit read.unit-unit.result (reading_as read.args.reading) ≡ true
+  in-unit = sym first.in_unit.ensures ∙ not-false _ first.if-not-in_unit.left
 
-  warmth : inside wheelhouse read.before.args.wheelhouse.0.v ≡ true
-  warmth = kept_inside wheelhouse second.before.holds.ensures second.before.before.number.ensures.value (not-false _ second.if2.left)
+  warmth : inside wheelhouse read.args.wheelhouse.0.v ≡ true
+  warmth = kept_inside wheelhouse second.holds.ensures second.number.ensures.value (not-false _ second.if-not-holds.left)
 
 pub returns-then-not-in_unit : goal.returns-then-not-in_unit
 returns-then-not-in_unit c =
@@ -46,8 +47,7 @@ returns-then-not-holds c =
 
 pub corrected-all-requires : goal.corrected-all-requires
 corrected-all-requires c =
-    let scaled = c.before.before.before in
-    let at = scaled.before in
+    let at = (goal.at.corrected-all-requires c).After-tenths_in-tenths in
     let start = (read at).before in
     let r = c.tenths_in-tenths.result.v in
     let s = start.args.store.now in
@@ -59,19 +59,17 @@ corrected-all-requires c =
 
 pub returns-in-NoneThere : goal.returns-in-NoneThere
 returns-in-NoneThere c =
-    let scaled = c.before.before in
-    let at = scaled.before in
+    let at = (goal.at.returns-in-NoneThere c).After-tenths_in-tenths in
     let start = (read at).before in
     let s = barometer_of start.args.store.now in
-    sea_outside s start.args.reading (read at).unit.ensures c.tenths_in-tenths.ensures start.args.wheelhouse.0.v (in-unit at) (warmth at)
+    sea_outside s start.args.reading (read at).unit-unit.ensures c.tenths_in-tenths.ensures start.args.wheelhouse.0.v (in-unit at) (warmth at)
     (none_there s c.tenths_in-tenths.result.v c.in-NoneThere.is c.scale_correction.ensures)
 
 pub returns-in-Value : goal.returns-in-Value
 returns-in-Value c =
-    let scaled = c.before.before.before.before.before in
-    let at = scaled.before in
+    let at = (goal.at.returns-in-Value c).After-tenths_in-tenths in
     let start = (read at).before in
     let s = barometer_of start.args.store.now in
-    sea_given s start.args.reading (read at).unit.ensures c.tenths_in-tenths.ensures start.args.wheelhouse.0.v (in-unit at) (warmth at)
+    sea_given s start.args.reading (read at).unit-unit.ensures c.tenths_in-tenths.ensures start.args.wheelhouse.0.v (in-unit at) (warmth at)
     (worked s c.tenths_in-tenths.result.v c.in-Value.is c.scale_correction.ensures)
     c.corrected-all.ensures.value c.rounded_once.ensures

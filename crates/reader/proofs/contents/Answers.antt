@@ -9,9 +9,10 @@ use Rattle.reader.specs.Work.{found}
 use Rattle.reader.proofs.ContentsLaws.{row_stop, row_on, rows_done}
 use Rattle.watchfile.proofs.FieldLaws.{size_most}
 use Rattle.reader.proofs.contents.Goals as goal
+use Rattle.reader.proofs.contents.Goals.{In-Broken}
 
 -- where a row is broken, so are the contents
-stop : (c : goal.at.In-Broken invariant-loop decreases-loop) →
+stop : (c : In-Broken invariant-loop decreases-loop) →
     let l = c.loop-i in
     let q = c.args in
     let place = l.at + c.in-Broken.k in
@@ -19,9 +20,8 @@ stop : (c : goal.at.In-Broken invariant-loop decreases-loop) →
 stop c =
     let l = c.loop-i in
     let q = c.args in
-    let r = c.read_row in
-    row_stop q.file.now q.count (q.count - l.i) (q.count - (l.i + 1)) l.at l.next l.before (omega arith) l.invariant.2 r.result
-    c.in-Broken.k r.ensures c.in-Broken.is
+    row_stop q.file.now q.count (q.count - l.i) (q.count - (l.i + 1)) l.at l.next l.before (omega arith) l.invariant.2 c.read_row.result
+    c.in-Broken.k c.read_row.ensures c.in-Broken.is
 
 pub loop-i-init : goal.loop-i-init
 loop-i-init c =
@@ -38,19 +38,17 @@ pub enum_known-k : goal.enum_known-k
 enum_known-k c = c.in-Broken.in-Broken-own.keys2
 
 pub overflow_add-result : goal.overflow_add-result
-overflow_add-result c = let t = stop c in omega arith
+overflow_add-result c = let t = stop (goal.at.overflow_add-result c).In-Broken in omega arith
 
 pub returns-in-Broken : goal.returns-in-Broken
-returns-in-Broken c = sym (c.loop-i.invariant.4 ∙ (stop c).0)
+returns-in-Broken c = sym (c.loop-i.invariant.4 ∙ (stop (goal.at.returns-in-Broken c).In-Broken).0)
 
 pub loop-i-preserved : goal.loop-i-preserved
 loop-i-preserved c =
     let l = c.loop-i in
     let q = c.args in
-    let read = c.read_row in
-    let r = c.in-Good.row in
-    let t = row_on q.file.now q.count (q.count - l.i) (q.count - (l.i + 1)) l.at l.next l.before (omega arith) l.invariant.2 read.result r read.ensures c.in-Good.is in
-    (omega arith, omega arith, t.1, omega (arith, size_most r.kind), l.invariant.4 ∙ t.0 ∙ rw (c.?type_size.ensures, c.rank-before.ensures))
+    let t = row_on q.file.now q.count (q.count - l.i) (q.count - (l.i + 1)) l.at l.next l.before (omega arith) l.invariant.2 c.read_row.result c.in-Good.row c.read_row.ensures c.in-Good.is in
+    (omega arith, omega arith, t.1, omega (arith, size_most c.in-Good.row.kind), l.invariant.4 ∙ t.0 ∙ rw (c.?type_size.ensures, c.rank-before.ensures))
 
 pub returns : goal.returns
 returns c =

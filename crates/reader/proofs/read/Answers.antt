@@ -14,30 +14,31 @@ use Rattle.reader.specs.Read.{counted}
 use Rattle.reader.specs.Work.{found}
 use Rattle.reader.proofs.ReadLaws.{rows, contents_good, contents_broken, contents_whole}
 use Rattle.reader.proofs.read.Goals as goal
+use Rattle.reader.proofs.read.Goals.{Else-count-gt-RECORDS, Else-file-ne1, Else-not-label_right, In-Good, Start}
 
 -- what the fields come to from the k-th on
-abbrev from : goal.at.Start → (ℕ → ℤ) → ℕ → Answer ℕ (List Record)
+abbrev from : Start → (ℕ → ℤ) → ℕ → Answer ℕ (List Record)
 from q rule k = let s = q.args.file.now in found s (drop k (fields rule s)) (records s)
 
-whole : (q : goal.at.Start) (rule : ℕ → ℤ) → reading rule q.args.file.now ≡ from q rule 0
+whole : (q : Start) (rule : ℕ → ℤ) → reading rule q.args.file.now ≡ from q rule 0
 unfolding reading
 whole q rule = refl
 
-past-label : (c : goal.at.Else-not-label_right) (rule : ℕ → ℤ) → let q = c.before.before.before.before.before.before in reading rule c.args.file.now ≡ from q rule 1
+past-label : (c : Else-not-label_right) (rule : ℕ → ℤ) → let q = c.before.before.before.before.before.before in reading rule q.args.file.now ≡ from q rule 1
 past-label c rule =
     whole c.before.before.before.before.before.before rule
     ∙ right _ _ _ _ c.if-file-lt2.false (sym c.label_right.ensures ∙ not-false _ c.if-not-label_right.false-raw)
 
-past-version : (c : goal.at.Else-file-ne1) (rule : ℕ → ℤ) → let q = c.before.before.before.before.before.before.before.before.before in reading rule c.args.file.now ≡ from q rule 2
+past-version : (c : Else-file-ne1) (rule : ℕ → ℤ) → let q = c.before.before.before.before.before.before.before.before.before in reading rule q.args.file.now ≡ from q rule 2
 past-version c rule =
     past-label c.before.before.before rule ∙ right _ _ _ _ c.if-file-lt3.false (eq-eqb _ _ c.if-file-ne1.false)
 
-past-count : (c : goal.at.Else-count-gt-RECORDS) (rule : ℕ → ℤ) → let q = c.before.before.before.before.before.before.before.before.before.before.before.before in reading rule c.args.file.now ≡ from q rule 3
+past-count : (c : Else-count-gt-RECORDS) (rule : ℕ → ℤ) → let q = c.before.before.before.before.before.before.before.before.before.before.before.before in reading rule q.args.file.now ≡ from q rule 3
 past-count c rule =
     past-version c.before.before.before rule ∙ right _ _ _ _ c.if-file-lt4.false (le-leb _ _ c.if-count-gt-RECORDS.false)
 
 -- the contents are right
-good : (c : goal.at.In-Good) → let s = c.args.file.now in found s (rows s (count_of s)) (count_of s) ≡ given (count_of s)
+good : (c : In-Good) → let s = c.args.file.now in found s (rows s (count_of s)) (count_of s) ≡ given (count_of s)
 good c =
     let s = c.args.file.now in
     contents_good s (count_of s) c.contents.result c.contents.ensures c.in-Good.field-0 c.in-Good.is
@@ -45,28 +46,28 @@ good c =
 pub returns-then-file-lt2 : goal.returns-then-file-lt2
 returns-then-file-lt2 c =
     λ rule ruled.
-    ap counted (sym (whole c.before.before rule ∙ cut _ _ _ _ c.if-file-lt2.true))
+    ap counted (sym (whole (goal.at.returns-then-file-lt2 c).Start rule ∙ cut _ _ _ _ c.if-file-lt2.true))
 
 pub returns-then-not-label_right : goal.returns-then-not-label_right
 returns-then-not-label_right c =
     λ rule ruled.
     let label = sym c.label_right.ensures ∙ not-true _ c.if-not-label_right.true-raw in
-    ap counted (sym (whole c.before.before.before.before.before.before rule ∙ wrong _ _ _ _ c.if-file-lt2.false label))
+    ap counted (sym (whole (goal.at.returns-then-not-label_right c).Start rule ∙ wrong _ _ _ _ c.if-file-lt2.false label))
 
 pub returns-then-file-lt3 : goal.returns-then-file-lt3
 returns-then-file-lt3 c =
     λ rule ruled.
-    ap counted (sym (past-label c.before rule ∙ cut _ _ _ _ c.if-file-lt3.true))
+    ap counted (sym (past-label (goal.at.returns-then-file-lt3 c).Else-not-label_right rule ∙ cut _ _ _ _ c.if-file-lt3.true))
 
 pub returns-then-file-ne1 : goal.returns-then-file-ne1
 returns-then-file-ne1 c =
     λ rule ruled.
-    ap counted (sym (past-label c.before.before.before rule ∙ wrong _ _ _ _ c.if-file-lt3.false (ne_eqb _ _ c.if-file-ne1.true)))
+    ap counted (sym (past-label (goal.at.returns-then-file-ne1 c).Else-not-label_right rule ∙ wrong _ _ _ _ c.if-file-lt3.false (ne_eqb _ _ c.if-file-ne1.true)))
 
 pub returns-then-file-lt4 : goal.returns-then-file-lt4
 returns-then-file-lt4 c =
     λ rule ruled.
-    ap counted (sym (past-version c.before rule ∙ cut _ _ _ _ c.if-file-lt4.true))
+    ap counted (sym (past-version (goal.at.returns-then-file-lt4 c).Else-file-ne1 rule ∙ cut _ _ _ _ c.if-file-lt4.true))
 
 pub overflow_cast-count : goal.overflow_cast-count
 overflow_cast-count c = omega (arith, c.shared_slice_known-5-1.given 3)
@@ -74,28 +75,27 @@ overflow_cast-count c = omega (arith, c.shared_slice_known-5-1.given 3)
 pub returns-then-count-gt-RECORDS : goal.returns-then-count-gt-RECORDS
 returns-then-count-gt-RECORDS c =
     λ rule ruled.
-    ap counted (sym (past-version c.before.before.before rule ∙ wrong _ _ _ _ c.if-file-lt4.false (lt-leb _ _ c.if-count-gt-RECORDS.true)))
+    ap counted (sym (past-version (goal.at.returns-then-count-gt-RECORDS c).Else-file-ne1 rule ∙ wrong _ _ _ _ c.if-file-lt4.false (lt-leb _ _ c.if-count-gt-RECORDS.true)))
 
 pub bodies-requires : goal.bodies-requires
 bodies-requires c =
     let s = c.args.file.now in
-    (c.if-count-gt-RECORDS.false, good c, contents_whole s (count_of s) c.if-file-lt4.false (good c))
+    (c.if-count-gt-RECORDS.false, good (goal.at.bodies-requires c).In-Good, contents_whole s (count_of s) c.if-file-lt4.false (good (goal.at.bodies-requires c).In-Good))
 
 pub returns-in-Good : goal.returns-in-Good
 returns-in-Good c =
     λ rule ruled.
-    let at = c.before.before.before.before in
+    let at = (goal.at.returns-in-Good c).Else-count-gt-RECORDS in
     let s = c.args.file.now in
     let n = count_of s in
     c.bodies.ensures rule ruled
-    ∙ ap counted (sym (past-count at rule ∙ joined_given (length s) (rows s n) (bodies_fields rule s n 4 (start_of n)) n (records s) n (good c.before)))
+    ∙ ap counted (sym (past-count at rule ∙ joined_given (length s) (rows s n) (bodies_fields rule s n 4 (start_of n)) n (records s) n (good (goal.at.returns-in-Good c).In-Good)))
 
 pub returns-in-Broken : goal.returns-in-Broken
 returns-in-Broken c =
     λ rule ruled.
-    let at = c.before.before.before.before in
+    let at = (goal.at.returns-in-Broken c).Else-count-gt-RECORDS in
     let s = c.args.file.now in
     let n = count_of s in
-    let place = c.place-1.given in
-    let wrong = contents_broken s n c.contents.result c.contents.ensures place.0.0 place.1 in
-    ap counted (sym (past-count at rule ∙ joined_refused (length s) (rows s n) (bodies_fields rule s n 4 (start_of n)) n (records s) place.0.0 wrong))
+    let wrong = contents_broken s n c.contents.result c.contents.ensures c.in-Broken.place c.in-Broken.is in
+    ap counted (sym (past-count at rule ∙ joined_refused (length s) (rows s n) (bodies_fields rule s n 4 (start_of n)) n (records s) c.in-Broken.place wrong))

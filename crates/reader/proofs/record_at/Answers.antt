@@ -13,28 +13,26 @@ use Rattle.reader.specs.declared.Row.{Row}
 use Rattle.reader.proofs.ContentsLaws.{part_all, length_part}
 use Rattle.reader.proofs.RecordLaws.{nowhere_is, at_is}
 use Rattle.reader.proofs.record_at.Goals as goal
+use Rattle.reader.proofs.record_at.Goals.{In-At}
 
 -- what was found: the offset and the row, the body in the file, and so the record
-found : (c : goal.at.In-At) →
+found : (c : In-At) →
     let q = c.args in
-    let row = c.in-At.row in
-    let at = c.in-At.at in
-    (at ≡ offset_at q.file.now q.i) × (row ≡ row_of (row_at q.file.now q.i)) × (at + size_of row.kind ≤ length q.file.now)
-    × (record_at q.file.now q.i ≡ figures_of (record_in q.file.now q.i)) × (kind_right row.kind ≡ true)
+    (c.in-At.at ≡ offset_at q.file.now q.i) × (c.in-At.row ≡ row_of (row_at q.file.now q.i)) × (c.in-At.at + size_of c.in-At.row.kind ≤ length q.file.now)
+    × (record_at q.file.now q.i ≡ figures_of (record_in q.file.now q.i)) × (kind_right c.in-At.row.kind ≡ true)
 found c =
     let q = c.args in
-    let f = c.find in
-    at_is q.file.now q.i f.result c.in-At.row c.in-At.at f.ensures c.in-At.is
+    at_is q.file.now q.i c.find.result c.in-At.row c.in-At.at c.find.ensures c.in-At.is
 
 pub slice_bounds-figures_at-count : goal.slice_bounds-figures_at-count
-slice_bounds-figures_at-count c = let t = found c in omega (arith, t.2)
+slice_bounds-figures_at-count c = let t = found (goal.at.slice_bounds-figures_at-count c).In-At in omega (arith, t.2)
 
 pub slice_bounds-figures_at-start : goal.slice_bounds-figures_at-start
-slice_bounds-figures_at-start c = let t = found c in omega (arith, t.2)
+slice_bounds-figures_at-start c = let t = found (goal.at.slice_bounds-figures_at-start c).In-At in omega (arith, t.2)
 
 pub figures_at-requires : goal.figures_at-requires
 figures_at-requires c =
-    let t = found c.before in
+    let t = found (goal.at.figures_at-requires c).In-At in
     (t.4, omega (arith, t.2, length_part c.args.file.now c.in-At.at))
 
 pub returns-in-Nowhere : goal.returns-in-Nowhere
@@ -44,11 +42,9 @@ pub returns-in-At : goal.returns-in-At
 returns-in-At c =
     let q = c.args in
     let s = q.file.now in
-    let row = c.in-At.row in
-    let at = c.in-At.at in
-    let t = found c.before.before in
+    let t = found (goal.at.returns-in-At c).In-At in
     c.figures_at.ensures
-    ∙ ap (λ (p : List ℕ). body_figures row.minute (body_of row.kind p)) (part_all s at)
-    ∙ ap (λ (k : ℕ). body_figures row.minute (body_of row.kind (drop k s))) t.0
+    ∙ ap (λ (p : List ℕ). body_figures c.in-At.row.minute (body_of c.in-At.row.kind p)) (part_all s c.in-At.at)
+    ∙ ap (λ (k : ℕ). body_figures c.in-At.row.minute (body_of c.in-At.row.kind (drop k s))) t.0
     ∙ ap (λ (r : Row). body_figures r.minute (body_of r.kind (drop (offset_at s q.i) s))) t.1
     ∙ sym t.3

@@ -12,31 +12,32 @@ use Rattle.watchfile.proofs.FieldLaws.{cut, wrong, right, none}
 use Rattle.reader.specs.Work.{found}
 use borrow.Author.Rules.{rules}
 use Rattle.reader.proofs.test_derived.Goals as goal
+use Rattle.reader.proofs.test_derived.Goals.{After-deficit_right, After-dew_right, After-relative_right, After-signed-dew, Else-not-deficit_right, Else-not-relative_right, Start}
 
-abbrev from : goal.at.Start → (ℕ → ℤ) → ℕ → Answer ℕ (Unit {0})
+abbrev from : Start → (ℕ → ℤ) → ℕ → Answer ℕ (Unit {0})
 from q rule k = let s = q.args.s.now in found s (drop k (humidity_fields rule s)) tt
 
 -- the three rules, as the bytes have them
-deficit-rule : (c : goal.at.After-deficit_right) → let s = c.args.s.now in c.deficit_right.result ≡ deficit_right (le16 s 0) (le16 s 2) (le16 s 4)
+deficit-rule : (c : After-deficit_right) → let s = c.args.s.now in c.deficit_right.result ≡ deficit_right (le16 s 0) (le16 s 2) (le16 s 4)
 deficit-rule c =
     rw (c.requires.1, c.requires.2, c.get16-deficit.ensures) at c.deficit_right.ensures
 
-relative-rule : (c : goal.at.After-relative_right) → let s = c.args.s.now in c.relative_right.result ≡ relative_right (le16 s 0) (le16 s 2) (get_or s 6 0)
+relative-rule : (c : After-relative_right) → let s = c.args.s.now in c.relative_right.result ≡ relative_right (le16 s 0) (le16 s 2) (get_or s 6 0)
 relative-rule c =
     rw (c.requires.1, c.requires.2) at c.relative_right.ensures
 
-dew : (c : goal.at.After-signed-dew) → c.signed-dew.result.v ≡ signed16 (le16 c.args.s.now 7)
+dew : (c : After-signed-dew) → c.signed-dew.result.v ≡ signed16 (le16 c.args.s.now 7)
 dew c = c.signed-dew.ensures ∙ ap signed16 c.get16.ensures
 
-dew-rule : (c : goal.at.After-dew_right) (rule : ℕ → ℤ) → DewRule rule → let s = c.args.s.now in c.dew_right.result ≡ dew_right rule (le16 s 0) (signed16 (le16 s 7))
+dew-rule : (c : After-dew_right) (rule : ℕ → ℤ) → DewRule rule → let s = c.args.s.now in c.dew_right.result ≡ dew_right rule (le16 s 0) (signed16 (le16 s 7))
 dew-rule c rule ruled =
     rw (c.requires.1, dew c.before) at (c.dew_right.ensures rule ruled)
 
-past-deficit : (c : goal.at.Else-not-deficit_right) (rule : ℕ → ℤ) → let q = c.before.before.before.before.before in from q rule 2 ≡ from q rule 3
+past-deficit : (c : Else-not-deficit_right) (rule : ℕ → ℤ) → let q = c.before.before.before.before.before in from q rule 2 ≡ from q rule 3
 past-deficit c rule =
     right _ _ _ _ c.if-s-lt6.false (sym (deficit-rule c.before) ∙ not-false _ c.if-not-deficit_right.false-raw)
 
-past-relative : (c : goal.at.Else-not-relative_right) (rule : ℕ → ℤ) → let q = c.before.before.before.before.before.before.before.before.before in from q rule 2 ≡ from q rule 4
+past-relative : (c : Else-not-relative_right) (rule : ℕ → ℤ) → let q = c.before.before.before.before.before.before.before.before.before in from q rule 2 ≡ from q rule 4
 past-relative c rule =
     past-deficit c.before.before.before.before rule
     ∙ right _ _ _ _ c.if-s-lt7.false (sym (relative-rule c.before) ∙ not-false _ c.if-not-relative_right.false-raw)
@@ -47,30 +48,30 @@ returns-then-s-lt6 c = λ rule ruled. sym (cut _ _ _ _ c.if-s-lt6.true)
 pub returns-then-not-deficit_right : goal.returns-then-not-deficit_right
 returns-then-not-deficit_right c =
     λ rule ruled.
-    sym (wrong _ _ _ _ c.if-s-lt6.false (sym (deficit-rule c.before) ∙ not-true _ c.if-not-deficit_right.true-raw))
+    sym (wrong _ _ _ _ c.if-s-lt6.false (sym (deficit-rule (goal.at.returns-then-not-deficit_right c).After-deficit_right) ∙ not-true _ c.if-not-deficit_right.true-raw))
 
 pub returns-then-s-lt7 : goal.returns-then-s-lt7
-returns-then-s-lt7 c = λ rule ruled. sym (past-deficit c.before rule ∙ cut _ _ _ _ c.if-s-lt7.true)
+returns-then-s-lt7 c = λ rule ruled. sym (past-deficit (goal.at.returns-then-s-lt7 c).Else-not-deficit_right rule ∙ cut _ _ _ _ c.if-s-lt7.true)
 
 pub returns-then-not-relative_right : goal.returns-then-not-relative_right
 returns-then-not-relative_right c =
     λ rule ruled.
-    sym (past-deficit c.before.before.before.before rule
-    ∙ wrong _ _ _ _ c.if-s-lt7.false (sym (relative-rule c.before) ∙ not-true _ c.if-not-relative_right.true-raw))
+    sym (past-deficit (goal.at.returns-then-not-relative_right c).Else-not-deficit_right rule
+    ∙ wrong _ _ _ _ c.if-s-lt7.false (sym (relative-rule (goal.at.returns-then-not-relative_right c).After-relative_right) ∙ not-true _ c.if-not-relative_right.true-raw))
 
 pub returns-then-s-lt9 : goal.returns-then-s-lt9
-returns-then-s-lt9 c = λ rule ruled. sym (past-relative c.before rule ∙ cut _ _ _ _ c.if-s-lt9.true)
+returns-then-s-lt9 c = λ rule ruled. sym (past-relative (goal.at.returns-then-s-lt9 c).Else-not-relative_right rule ∙ cut _ _ _ _ c.if-s-lt9.true)
 
 pub returns-then-dew_right : goal.returns-then-dew_right
 returns-then-dew_right c =
     λ rule ruled.
-    let at = c.before.before.before.before.before in
+    let at = (goal.at.returns-then-dew_right c).Else-not-relative_right in
     sym (past-relative at rule
-    ∙ right _ _ _ _ c.if-s-lt9.false (sym (dew-rule c.before rule ruled) ∙ c.if-dew_right.true)
+    ∙ right _ _ _ _ c.if-s-lt9.false (sym (dew-rule (goal.at.returns-then-dew_right c).After-dew_right rule ruled) ∙ c.if-dew_right.true)
     ∙ none _ _)
 
 pub returns : goal.returns
 returns c =
     λ rule ruled.
-    sym (past-relative c.before.before.before.before.before rule
-    ∙ wrong _ _ _ _ c.if-s-lt9.false (sym (dew-rule c.before rule ruled) ∙ c.if-dew_right.false))
+    sym (past-relative (goal.at.returns c).Else-not-relative_right rule
+    ∙ wrong _ _ _ _ c.if-s-lt9.false (sym (dew-rule (goal.at.returns c).After-dew_right rule ruled) ∙ c.if-dew_right.false))

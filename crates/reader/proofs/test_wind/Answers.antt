@@ -10,17 +10,18 @@ use Rattle.watchfile.specs.Format.{wind_fields}
 use Rattle.watchfile.proofs.FieldLaws.{cut, wrong, right, none}
 use Rattle.reader.specs.Work.{found}
 use Rattle.reader.proofs.test_wind.Goals as goal
+use Rattle.reader.proofs.test_wind.Goals.{After-direction_right, Else-not-speed_right, Start}
 
-abbrev from : goal.at.Start → ℕ → Answer ℕ (Unit {0})
+abbrev from : Start → ℕ → Answer ℕ (Unit {0})
 from q k = let s = q.args.s.now in found s (drop k (wind_fields s)) tt
 
-past-speed : (c : goal.at.Else-not-speed_right) → let q = c.before.before.before.before.before in from q 0 ≡ from q 1
+past-speed : (c : Else-not-speed_right) → let q = c.before.before.before.before.before in from q 0 ≡ from q 1
 past-speed c =
     right _ _ _ _ c.if-s-lt2.false
     (sym (ap speed_right c.get16-speed.ensures) ∙ sym c.speed_right.ensures ∙ not-false _ c.if-not-speed_right.false-raw)
 
 -- the rule of the direction, as the bytes have it
-direction : (c : goal.at.After-direction_right) → let s = c.args.s.now in c.direction_right.result ≡ direction_right (le16 s 0) (le16 s 2)
+direction : (c : After-direction_right) → let s = c.args.s.now in c.direction_right.result ≡ direction_right (le16 s 0) (le16 s 2)
 direction c =
     let s = c.args.s.now in
     c.direction_right.ensures
@@ -36,15 +37,15 @@ returns-then-not-speed_right c =
     (sym (ap speed_right c.get16-speed.ensures) ∙ sym c.speed_right.ensures ∙ not-true _ c.if-not-speed_right.true-raw))
 
 pub returns-then-s-lt4 : goal.returns-then-s-lt4
-returns-then-s-lt4 c = sym (past-speed c.before ∙ cut _ _ _ _ c.if-s-lt4.true)
+returns-then-s-lt4 c = sym (past-speed (goal.at.returns-then-s-lt4 c).Else-not-speed_right ∙ cut _ _ _ _ c.if-s-lt4.true)
 
 pub returns-then-direction_right : goal.returns-then-direction_right
 returns-then-direction_right c =
-    sym (past-speed c.before.before.before.before
-    ∙ right _ _ _ _ c.if-s-lt4.false (sym (direction c.before) ∙ c.if-direction_right.true)
+    sym (past-speed (goal.at.returns-then-direction_right c).Else-not-speed_right
+    ∙ right _ _ _ _ c.if-s-lt4.false (sym (direction (goal.at.returns-then-direction_right c).After-direction_right) ∙ c.if-direction_right.true)
     ∙ none _ _)
 
 pub returns : goal.returns
 returns c =
-    sym (past-speed c.before.before.before.before
-    ∙ wrong _ _ _ _ c.if-s-lt4.false (sym (direction c.before) ∙ c.if-direction_right.false))
+    sym (past-speed (goal.at.returns c).Else-not-speed_right
+    ∙ wrong _ _ _ _ c.if-s-lt4.false (sym (direction (goal.at.returns c).After-direction_right) ∙ c.if-direction_right.false))

@@ -19,38 +19,32 @@ overflow_cast-d c = omega (arith, c.shared_slice_known-4-1.given (c.args.from + 
 pub overflow_mul-result : goal.overflow_mul-result
 overflow_mul-result c =
     let i = c.args.from in
-    let s = c.shared_slice_known-4-1.given in
-    omega (arith, s i, s (i + 1), s (i + 2), s (i + 3))
+    omega (arith, c.shared_slice_known-4-1.given i, c.shared_slice_known-4-1.given (i + 1), c.shared_slice_known-4-1.given (i + 2), c.shared_slice_known-4-1.given (i + 3))
 
 pub overflow_add-result : goal.overflow_add-result
 overflow_add-result c =
     let i = c.args.from in
-    let s = c.shared_slice_known-4-1.given in
-    omega (arith, s i, s (i + 1), s (i + 2), s (i + 3))
+    omega (arith, c.shared_slice_known-4-1.given i, c.shared_slice_known-4-1.given (i + 1), c.shared_slice_known-4-1.given (i + 2), c.shared_slice_known-4-1.given (i + 3))
 
 pub overflow_mul-result-2 : goal.overflow_mul-result-2
 overflow_mul-result-2 c =
     let i = c.args.from in
-    let s = c.shared_slice_known-4-1.given in
-    omega (arith, s i, s (i + 1), s (i + 2), s (i + 3))
+    omega (arith, c.shared_slice_known-4-1.given i, c.shared_slice_known-4-1.given (i + 1), c.shared_slice_known-4-1.given (i + 2), c.shared_slice_known-4-1.given (i + 3))
 
 pub overflow_add-result-2 : goal.overflow_add-result-2
 overflow_add-result-2 c =
     let i = c.args.from in
-    let s = c.shared_slice_known-4-1.given in
-    omega (arith, s i, s (i + 1), s (i + 2), s (i + 3))
+    omega (arith, c.shared_slice_known-4-1.given i, c.shared_slice_known-4-1.given (i + 1), c.shared_slice_known-4-1.given (i + 2), c.shared_slice_known-4-1.given (i + 3))
 
 pub overflow_mul-result-3 : goal.overflow_mul-result-3
 overflow_mul-result-3 c =
     let i = c.args.from in
-    let s = c.shared_slice_known-4-1.given in
-    omega (arith, s i, s (i + 1), s (i + 2), s (i + 3))
+    omega (arith, c.shared_slice_known-4-1.given i, c.shared_slice_known-4-1.given (i + 1), c.shared_slice_known-4-1.given (i + 2), c.shared_slice_known-4-1.given (i + 3))
 
 pub overflow_add-result-3 : goal.overflow_add-result-3
 overflow_add-result-3 c =
     let i = c.args.from in
-    let s = c.shared_slice_known-4-1.given in
-    omega (arith, s i, s (i + 1), s (i + 2), s (i + 3))
+    omega (arith, c.shared_slice_known-4-1.given i, c.shared_slice_known-4-1.given (i + 1), c.shared_slice_known-4-1.given (i + 2), c.shared_slice_known-4-1.given (i + 3))
 
 pub returns : goal.returns
 returns c = (refl, λ i. omega (arith, c.shared_slice_known-4-1.given i))

@@ -31,9 +31,10 @@ use Rattle.station.proofs.KeptLaws.{first_inside, in_its_unit}
 use Rattle.station.proofs.PressureLaws.{Got, station_got}
 use Rattle.station.proofs.HumidityLaws.{asked, moisture_told, moisture_of}
 use Rattle.station.proofs.humidity.Goals as goal
+use Rattle.station.proofs.humidity.Goals.{After-barometer_at, After-humidity, After-station_pressure, Else-not-holds, In-DryBulb-2, In-Given-2, In-Shows-2, In-WetBulb-2}
 
 -- the store is one, and the minute may be asked
-module _ (c : goal.at.Else-not-holds) where
+module _ (c : Else-not-holds) where
   abbrev s : List ℕ
   s = c.args.store.now
 
@@ -46,28 +47,28 @@ module _ (c : goal.at.Else-not-holds) where
       both_pass s m (HumidityRule (held s) m) rest c.is_store.ensures c.holds.ensures c.if-not-is_store.false-raw c.if-not-holds.false-raw a
 
 -- what the barometer was found to show
-shows : (c : goal.at.After-barometer_at) (r : Shown) → c.barometer_at.result ≡ r → let at = c.before in Shows (recall_of (s at) 0 (m at)) r
+shows : (c : After-barometer_at) (r : Shown) → c.barometer_at.result ≡ r → let at = c.before in Shows (recall_of (s at) 0 (m at)) r
 shows c r e = let at = c.before in subst (Shows (recall_of (s at) 0 (m at))) e c.barometer_at.ensures
 
-shown-is : (c : goal.at.In-Shows-2) → let at = c.before.before.before in Shows (recall_of (s at) 0 (m at)) (shown.Shows c.in-Shows.reading)
+shown-is : (c : In-Shows-2) → let at = c.before.before.before in Shows (recall_of (s at) 0 (m at)) (shown.Shows c.in-Shows.reading)
 shown-is c = shows c.before.before (shown.Shows c.in-Shows.reading) c.in-Shows.is
 
 -- and both bulbs, as they are kept
-dry-is : (c : goal.at.In-DryBulb-2) → let at = c.before.before.before.before.before.before.before.before.before.before in
+dry-is : (c : In-DryBulb-2) → let at = c.before.before.before.before.before.before.before.before.before.before in
     recall_of (s at) 4 (m at) ≡ recalled (entry_of (m at) (DryBulb c.in-DryBulb.dry))
 dry-is c =
     let k = c.before.before.before in
     let at = k.before.before.before.before.before.before.before in
     is_kept (s at) 4 (m at) c.recall.ensures c.in-Kept.is ∙ ap (λ (x : Reading). recalled (entry_of (m at) x)) c.in-DryBulb.is
 
-module _ (c : goal.at.In-WetBulb-2) where
-  abbrev air : tie.After-in-air2
+module _ (c : In-WetBulb-2) where
+  abbrev air : In-DryBulb-2
   air = c.before.before.before.before.before.before.before
 
-  abbrev read : tie.After-reading
+  abbrev read : In-Shows-2
   read = air.before.before.before.before.before.before.before
 
-  abbrev at : tie.Else2
+  abbrev at : Else-not-holds
   at = read.before.before.before
 
   wet-is : recall_of (s at) 5 (m at) ≡ recalled (entry_of (m at) (WetBulb c.in-WetBulb.state c.in-WetBulb.wet))
@@ -81,7 +82,7 @@ module _ (c : goal.at.In-WetBulb-2) where
       (pass _ _ _ a (ap not (shown-is read).0) (pass _ _ _ a (ap not (ap is_present (dry-is air))) (pass _ _ _ a (ap not (ap is_present wet-is)) w)))
 
 -- the station pressure that was worked
-pressed-is : (c : goal.at.After-station_pressure) (w : WorkedPressure) → c.station_pressure.result ≡ w →
+pressed-is : (c : After-station_pressure) (w : WorkedPressure) → c.station_pressure.result ≡ w →
     let e = at c.before.before in
     let S = held (s e) in
     Got (outside S.barometer (reading_at S (m e))) (station_at S (m e)) w
@@ -93,21 +94,21 @@ pressed-is c w e =
     (sym (ap pressure_as e) ∙ c.station_pressure.ensures ∙ ap (station_answer b) (sym x.1))
 
 -- and what both bulbs came to
-module _ (c : goal.at.After-humidity) where
-  abbrev given : tie.After-p
+module _ (c : After-humidity) where
+  abbrev given : In-Given-2
   given = c.before.before.before
 
-  abbrev found : tie.After-on-wick2
+  abbrev found : In-WetBulb-2
   found = given.before.before.before.before
 
   given_is : let S = held (s (at found)) in
-      Got (outside S.barometer (reading_at S (m (at found)))) (station_at S (m (at found))) (pressed.Given given.p.given.0.0)
-  given_is = pressed-is given.before.before (pressed.Given given.p.given.0.0) given.p.given.1
+      Got (outside S.barometer (reading_at S (m (at found)))) (station_at S (m (at found))) (pressed.Given given.in-Given.p)
+  given_is = pressed-is given.before.before (pressed.Given given.in-Given.p) given.in-Given.is
 
   moisture-is : (x : Moisture) → c.humidity.result ≡ x → let S = held (s (at found)) in IsMoisture (state_at S (m (at found))) (dry_at S (m (at found))) (wet_at S (m (at found))) (station_at S (m (at found))) S.psychrometer x
   moisture-is x e =
       moisture_of x (sym (ap state_in (wet-is found))) (sym (ap in_celsius (dry-is (air found)))) (sym (ap in_celsius (wet-is found))) given_is.1 c.psychrometer.ensures
-      (subst (IsMoisture found.on-wick2.given.0.0 (air found).in-air2.given.0.0.0.v found.on-wick2.given.0.1.0.0.v given.p.given.0.0.0.v c.psychrometer.result.0.v) e c.humidity.ensures)
+      (subst (IsMoisture found.in-WetBulb.state (air found).in_air-in-DryBulb-1.given.0.0.0.v found.in-WetBulb.wet.0.v given.in-Given.p.0.v c.psychrometer.result.0.v) e c.humidity.ensures)
 
   told : (x : Moisture) → c.humidity.result ≡ x → (tables : Tables) → AreTables tables → let S = held (s (at found)) in
       Answers (no_store (s (at found)) ∷ humidity_tests (foreign S (m (at found))) tables S (m (at found))) (HumidityRule S (m (at found))) (asked x)
@@ -130,15 +131,15 @@ returns-then-not-holds c =
 
 pub returns-in_default : goal.returns-in_default
 returns-in_default c = (
-  λ tables tabled. front c.before.before.before _ _ (stop _ _ _ (ap not (shows c.before.before shown.Nothing c.in_default.is))),
+  λ tables tabled. front (goal.at.returns-in_default c).Else-not-holds _ _ (stop _ _ _ (ap not (shows (goal.at.returns-in_default c).After-barometer_at shown.Nothing c.in_default.is))),
   refl,
 )
 
 pub returns-in_default-recall : goal.returns-in_default-recall
 returns-in_default-recall c = (
   λ tables tabled.
-      let read = c.before.before.before.before in
-      let at = read.before.before.before in
+      let read = (goal.at.returns-in_default-recall c).In-Shows-2 in
+      let at = (goal.at.returns-in_default-recall c).Else-not-holds in
       front at _ _
       (pass _ _ _ _ (ap not (shown-is read).0) (stop _ _ _ (ap not (not_kept (s at) 4 (m at) c.recall.ensures c.in_default-recall.is)))),
   refl,
@@ -146,16 +147,15 @@ returns-in_default-recall c = (
 
 pub returns-in_default-in_air : goal.returns-in_default-in_air
 returns-in_default-in_air c =
-    let k = c.before.before in
-    let at = k.before.before.before.before.before.before.before in
+    let at = (goal.at.returns-in_default-in_air c).Else-not-holds in
     no_other (s at) 4 (m at) c.recall.ensures c.in-Kept.in_air (lit< tt) c.in-Kept.is (0 ∷ 1 ∷ 2 ∷ 3 ∷ 4 ∷ 6 ∷ []) refl c.in_default-in_air.in_default-in_air-own.keys2
 
 pub returns-in_default-recall-2 : goal.returns-in_default-recall-2
 returns-in_default-recall-2 c = (
   λ tables tabled.
-      let air = c.before.before.before.before in
-      let read = air.before.before.before.before.before.before.before in
-      let at = read.before.before.before in
+      let air = (goal.at.returns-in_default-recall-2 c).In-DryBulb-2 in
+      let read = (goal.at.returns-in_default-recall-2 c).In-Shows-2 in
+      let at = (goal.at.returns-in_default-recall-2 c).Else-not-holds in
       front at _ _
       (pass _ _ _ _ (ap not (shown-is read).0)
       (pass _ _ _ _ (ap not (ap is_present (dry-is air)))
@@ -166,38 +166,37 @@ returns-in_default-recall-2 c = (
 pub returns-in_default-on_wick : goal.returns-in_default-on_wick
 returns-in_default-on_wick c =
     let k = c.before.before in
-    let air = k.before.before.before.before in
-    let at = air.before.before.before.before.before.before.before.before.before.before in
+    let at = (goal.at.returns-in_default-on_wick c).Else-not-holds in
     no_other (s at) 5 (m at) c.recall-2.ensures c.in-Kept-recall.on_wick (lit< tt) c.in-Kept-recall.is (0 ∷ 1 ∷ 2 ∷ 3 ∷ 4 ∷ 5 ∷ []) refl c.in_default-on_wick.in_default-on_wick-own.keys2
 
 pub returns-in-Given-humidity : goal.returns-in-Given-humidity
-returns-in-Given-humidity c = let h = c.h-1.given in (told c.before.before.before (Given h.0.0) h.1, refl)
+returns-in-Given-humidity c = (told (goal.at.returns-in-Given-humidity c).After-humidity (Given c.in-Given-humidity.h) c.in-Given-humidity.is, refl)
 
 pub returns-in-WetAboveDry : goal.returns-in-WetAboveDry
-returns-in-WetAboveDry c = (told c.before.before WetAboveDry c.in-WetAboveDry.is, refl)
+returns-in-WetAboveDry c = (told (goal.at.returns-in-WetAboveDry c).After-humidity WetAboveDry c.in-WetAboveDry.is, refl)
 
 pub returns-in-TooWarmForIce : goal.returns-in-TooWarmForIce
-returns-in-TooWarmForIce c = (told c.before.before TooWarmForIce c.in-TooWarmForIce.is, refl)
+returns-in-TooWarmForIce c = (told (goal.at.returns-in-TooWarmForIce c).After-humidity TooWarmForIce c.in-TooWarmForIce.is, refl)
 
 pub returns-in-UnknownOutsideRange : goal.returns-in-UnknownOutsideRange
-returns-in-UnknownOutsideRange c = (told c.before.before UnknownOutsideRange c.in-UnknownOutsideRange.is, refl)
+returns-in-UnknownOutsideRange c = (told (goal.at.returns-in-UnknownOutsideRange c).After-humidity UnknownOutsideRange c.in-UnknownOutsideRange.is, refl)
 
 pub returns-in-AboveSaturation : goal.returns-in-AboveSaturation
-returns-in-AboveSaturation c = (told c.before.before AboveSaturation c.in-AboveSaturation.is, refl)
+returns-in-AboveSaturation c = (told (goal.at.returns-in-AboveSaturation c).After-humidity AboveSaturation c.in-AboveSaturation.is, refl)
 
 pub returns-in-TooDry : goal.returns-in-TooDry
-returns-in-TooDry c = (told c.before.before TooDry c.in-TooDry.is, refl)
+returns-in-TooDry c = (told (goal.at.returns-in-TooDry c).After-humidity TooDry c.in-TooDry.is, refl)
 
 pub returns-in-OutsideLimits-humidity : goal.returns-in-OutsideLimits-humidity
-returns-in-OutsideLimits-humidity c = (told c.before.before OutsideLimits c.in-OutsideLimits-humidity.is, refl)
+returns-in-OutsideLimits-humidity c = (told (goal.at.returns-in-OutsideLimits-humidity c).After-humidity OutsideLimits c.in-OutsideLimits-humidity.is, refl)
 
 pub returns-in-OutsideLimits : goal.returns-in-OutsideLimits
-returns-in-OutsideLimits c = absurd (pressed-is c.before.before pressed.OutsideLimits c.in-OutsideLimits.is)
+returns-in-OutsideLimits c = absurd (pressed-is (goal.at.returns-in-OutsideLimits c).After-station_pressure pressed.OutsideLimits c.in-OutsideLimits.is)
 
 pub returns-in-OutsideCertificate : goal.returns-in-OutsideCertificate
 returns-in-OutsideCertificate c = (
   λ tables tabled.
-      let found = c.before.before.before.before in
-      all_there found _ _ (stop _ _ _ (pressed-is c.before.before pressed.OutsideCertificate c.in-OutsideCertificate.is)),
+      let found = (goal.at.returns-in-OutsideCertificate c).In-WetBulb-2 in
+      all_there found _ _ (stop _ _ _ (pressed-is (goal.at.returns-in-OutsideCertificate c).After-station_pressure pressed.OutsideCertificate c.in-OutsideCertificate.is)),
   refl,
 )

@@ -21,9 +21,10 @@ use Rattle.station.proofs.AnswerLaws.{no_store_lem, too_late_lem, both_pass, pas
 use Rattle.store.proofs.RecallLaws.{not_kept, is_kept, no_other}
 use Rattle.station.proofs.WindLaws.{kept_within, wind_of}
 use Rattle.station.proofs.wind.Goals as goal
+use Rattle.station.proofs.wind.Goals.{After-true_wind, Else-not-holds, In-ApparentWind-2, In-ShipMotion-2}
 
 -- the store is one, and the minute may be asked
-module _ (c : goal.at.Else-not-holds) where
+module _ (c : Else-not-holds) where
   abbrev s : List ℕ
   s = c.args.store.now
 
@@ -36,14 +37,14 @@ module _ (c : goal.at.Else-not-holds) where
       both_pass s m (WindRule (held s) m) rest c.is_store.ensures c.holds.ensures c.if-not-is_store.left c.if-not-holds.left a
 
 -- both readings, as they are kept
-felt-is : (c : goal.at.In-ApparentWind-2) → let at = c.before.before.before.before.before.before in
+felt-is : (c : In-ApparentWind-2) → let at = c.before.before.before.before.before.before in
     recall_of (s at) 2 (m at) ≡ recalled (entry_of (m at) (ApparentWind c.in-ApparentWind.apparent c.in-ApparentWind.from_bow))
 felt-is c =
     let k = c.before.before.before in
     let at = k.before.before.before in
     is_kept (s at) 2 (m at) c.recall.ensures c.in-Kept.is ∙ ap (λ (x : Reading). recalled (entry_of (m at) x)) c.in-ApparentWind.is
 
-moved-is : (c : goal.at.In-ShipMotion-2) → let at = c.before.before.before.before.before.before.before.before.before.before.before.before.before in
+moved-is : (c : In-ShipMotion-2) → let at = c.before.before.before.before.before.before.before.before.before.before.before.before.before in
     recall_of (s at) 3 (m at) ≡ recalled (entry_of (m at) (ShipMotion c.in-ShipMotion.ship c.in-ShipMotion.course))
 moved-is c =
     let k = c.before.before.before in
@@ -51,14 +52,14 @@ moved-is c =
     is_kept (s at) 3 (m at) c.recall-2.ensures c.in-Kept-recall.is ∙ ap (λ (x : Reading). recalled (entry_of (m at) x)) c.in-ShipMotion.is
 
 -- the wind of both
-module _ (c : goal.at.After-true_wind) where
-  abbrev moved : tie.After-moved2
+module _ (c : After-true_wind) where
+  abbrev moved : In-ShipMotion-2
   moved = c.before.before
 
-  abbrev felt : tie.After-felt2
+  abbrev felt : In-ApparentWind-2
   felt = moved.before.before.before.before.before.before.before
 
-  abbrev at : tie.Else2
+  abbrev at : Else-not-holds
   at = felt.before.before.before.before.before.before
 
   found : (w : TrueWind) → c.true_wind.result ≡ w → WindRule (held (s at)) (m at) w
@@ -66,7 +67,7 @@ module _ (c : goal.at.After-true_wind) where
       let x = felt-is felt in
       let y = moved-is moved in
       wind_of w (sym (ap in_degrees y)) (sym (ap in_knots y)) (sym (ap in_metres_per_second x)) (sym (ap in_degrees x))
-      (subst (IsWind moved.moved2.given.0.1.0.0 moved.moved2.given.0.0.0 felt.felt2.given.0.0.0 felt.felt2.given.0.1.0.0) e c.true_wind.ensures)
+      (subst (IsWind moved.in-ShipMotion.course.0 moved.in-ShipMotion.ship.0 felt.in-ApparentWind.apparent.0 felt.in-ApparentWind.from_bow.0) e c.true_wind.ensures)
 
   both-there : (rest : List (Test Numbered)) (a : Answer Numbered TrueWind) → Answers rest (WindRule (held (s at)) (m at)) a
       → Answers (no_store (s at) ∷ too_late (m at) ∷ missing_at (held (s at)) (m at) 2 ∷ missing_at (held (s at)) (m at) 3 ∷ rest) (WindRule (held (s at)) (m at)) a
@@ -83,22 +84,21 @@ returns-then-not-holds c =
 pub returns-in_default : goal.returns-in_default
 returns-in_default c = (
   λ table tabled.
-      let at = c.before.before.before in
+      let at = (goal.at.returns-in_default c).Else-not-holds in
       front at _ _ (stop _ _ _ (ap not (not_kept (s at) 2 (m at) c.recall.ensures c.in_default.is))),
   refl,
 )
 
 pub returns-in_default-felt : goal.returns-in_default-felt
 returns-in_default-felt c =
-    let k = c.before.before in
-    let at = k.before.before.before in
+    let at = (goal.at.returns-in_default-felt c).Else-not-holds in
     no_other (s at) 2 (m at) c.recall.ensures c.in-Kept.felt (lit< tt) c.in-Kept.is (0 ∷ 1 ∷ 2 ∷ 4 ∷ 5 ∷ 6 ∷ []) refl c.in_default-felt.in_default-felt-own.keys2
 
 pub returns-in_default-recall : goal.returns-in_default-recall
 returns-in_default-recall c = (
   λ table tabled.
-      let felt = c.before.before.before.before in
-      let at = felt.before.before.before.before.before.before in
+      let felt = (goal.at.returns-in_default-recall c).In-ApparentWind-2 in
+      let at = (goal.at.returns-in_default-recall c).Else-not-holds in
       front at _ _
       (pass _ _ _ _ (ap not (ap is_present (felt-is felt)))
       (stop _ _ _ (ap not (not_kept (s at) 3 (m at) c.recall-2.ensures c.in_default-recall.is)))),
@@ -107,20 +107,18 @@ returns-in_default-recall c = (
 
 pub returns-in_default-moved : goal.returns-in_default-moved
 returns-in_default-moved c =
-    let k = c.before.before in
-    let at = k.before.before.before.before.before.before.before.before.before.before in
+    let at = (goal.at.returns-in_default-moved c).Else-not-holds in
     no_other (s at) 3 (m at) c.recall-2.ensures c.in-Kept-recall.moved (lit< tt) c.in-Kept-recall.is (0 ∷ 1 ∷ 2 ∷ 3 ∷ 5 ∷ 6 ∷ []) refl c.in_default-moved.in_default-moved-own.keys2
 
 pub returns-in-Blows : goal.returns-in-Blows
 returns-in-Blows c = (
   λ table tabled.
-      let v = c.v-1.given in
-      let w = c.before.before.before in
-      both-there w _ _ (end _ _ (found w (Blows v.0.0 v.0.1.0) v.1)),
+      let w = (goal.at.returns-in-Blows c).After-true_wind in
+      both-there w _ _ (end _ _ (found w (Blows c.in-Blows.v c.in-Blows.d) c.in-Blows.is)),
   refl,
 )
 
 pub returns-in-OutsideLimits : goal.returns-in-OutsideLimits
 returns-in-OutsideLimits c =
-    let w = c.before.before in
+    let w = (goal.at.returns-in-OutsideLimits c).After-true_wind in
     never (sym (found w OutsideLimits c.in-OutsideLimits.is) ∙ kept_within (s (at w)) (m (at w)) (ap is_present (felt-is (felt w))) (ap is_present (moved-is (moved w))))

@@ -22,7 +22,6 @@ pub returns-in-At : goal.returns-in-At
 returns-in-At c =
     let start = c.args in
     let is = sym c.is_store.ensures ∙ not-false _ c.if-not-is_store.false-raw in
-    let sent = c.minute-1.given in
-    hears_kept start.store.now start.bytes.now is c.offer.new.store (entry_of sent.0.0.0 sent.0.1.0) c.offer.result
-    (ap (λ (u : BarometerUnit). received u start.bytes.now) (sym c.unit-unit.ensures) ∙ sym c.receive.ensures ∙ ap received_as sent.1)
+    hears_kept start.store.now start.bytes.now is c.offer.new.store (entry_of c.in-At.minute.0 c.in-At.r) c.offer.result
+    (ap (λ (u : BarometerUnit). received u start.bytes.now) (sym c.unit-unit.ensures) ∙ sym c.receive.ensures ∙ ap received_as c.in-At.is)
     c.offer.ensures

@@ -5,6 +5,5 @@ use Rattle.store.proofs.keep.Goals as goal
 
 pub returns : goal.returns
 returns c =
-    let took = c.accept in
     let a = c.args in
-    rw (span a.c) (cell_kept a.store.now a.c a.minute a.v c.requires.0 c.requires.1 c.requires.2 took.new.0 took.result (rw (span a.c) at took.ensures))
+    rw (span a.c) (cell_kept a.store.now a.c a.minute a.v c.requires.0 c.requires.1 c.requires.2 c.accept.new.window c.accept.result (rw (span a.c) at c.accept.ensures))

@@ -5,12 +5,10 @@ use Rattle.text.proofs.put_number.Goals as goal
 
 pub returns-then-is_minus : goal.returns-then-is_minus
 returns-then-is_minus c =
-    let m = c.is_minus in
-    put_minus c.args.n.v (sym m.ensures ∙ c.if-is_minus.true) c.size-size.ensures
+    put_minus c.args.n.v (sym c.is_minus.ensures ∙ c.if-is_minus.true) c.size-size.ensures
     c.put_byte-behind.ensures c.put_natural.ensures
 
 pub returns : goal.returns
 returns c =
-    let m = c.is_minus in
-    put_plain c.args.n.v (sym m.ensures ∙ c.if-is_minus.false) c.size-size.ensures
+    put_plain c.args.n.v (sym c.is_minus.ensures ∙ c.if-is_minus.false) c.size-size.ensures
     c.put_natural-2.ensures

@@ -24,8 +24,7 @@ unfolding settings_of
 returns c =
     let l = c.loop-i in
     let q = c.args in
-    let b = c.barometer_points-b in
-    let f = point_of q.numbers.now b.result in
+    let f = point_of q.numbers.now c.barometer_points-b.result in
     let p : l.points ≡ each f 0 16 = sym (each_end f l.points l.i 16 c.loop-i-test.false) ∙ l.invariant.1 in
     rw (
       c.unit_of.ensures,
@@ -37,5 +36,5 @@ returns c =
       c.count_of.ensures,
       c.anemometer_of.ensures,
       p,
-      b.ensures.0,
+      c.barometer_points-b.ensures.0,
     )

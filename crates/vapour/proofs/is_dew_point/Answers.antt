@@ -10,9 +10,10 @@ use Rattle.vapour.specs.Tables.{tenth}
 use Rattle.vapour.proofs.RangeLaws.{range_then, not_both}
 use Rattle.vapour.proofs.DewLaws.{outside, tells}
 use Rattle.vapour.proofs.is_dew_point.Goals as goal
+use Rattle.vapour.proofs.is_dew_point.Goals.{After-place-i}
 
 -- the tenth at its place
-is : (c : goal.at.After-place-i) → tenth c.place-i.result ≡ c.args.t.0.v
+is : (c : After-place-i) → tenth c.place-i.result ≡ c.args.t.0.v
 is c = c.place-i.ensures.1 ∙ c.number-tenths.ensures.value
 
 pub returns-then-not-holds : goal.returns-then-not-holds
@@ -31,12 +32,12 @@ place-i-requires c = sym c.holds-2.ensures ∙ not-false _ c.if-not-holds-2.fals
 pub returns-then-pressure-threshold : goal.returns-then-pressure-threshold
 returns-then-pressure-threshold c =
     λ range d.
-    let at = c.before.before in
+    let at = (goal.at.returns-then-pressure-threshold c).After-place-i in
     (subst (DewPoint _) (sym (is at)) d).reached (c.threshold.ensures.short _ c.if-pressure-threshold.true)
 
 pub returns : goal.returns
 returns c =
-    let at = c.before.before.before in
+    let at = (goal.at.returns c).After-place-i in
     let e = c.args.e.0 in
     let range = sym c.holds.ensures ∙ not-false _ c.if-not-holds.false-raw in
     let reaches = c.threshold.ensures.reached e c.if-pressure-threshold.false in

@@ -20,19 +20,16 @@ pub write_without-requires : goal.write_without-requires
 write_without-requires c =
     let file = c.args.file.now in
     let end = c.smaller-end.result in
-    let told = c.read in
-    good_few the_rule.0 (take end file) (bytes_take file end (λ i. (c.slice_known-1.given i).fits)) told.result c.in-Good.count
-    (told.ensures the_rule.0 the_rule.1) c.in-Good.is
+    good_few the_rule.0 (take end file) (bytes_take file end (λ i. (c.slice_known-1.given i).fits)) c.read.result c.in-Good.count
+    (c.read.ensures the_rule.0 the_rule.1) c.in-Good.is
 
 pub returns-in-Broken : goal.returns-in-Broken
 returns-in-Broken c =
     λ rule ruled.
     let q = c.args in
-    let end = c.smaller-end in
-    let told = c.read in
-    leaves_read rule (taken_in rule q.minute q.kind (length q.file.now)) q.size end.result q.file.now q.file.now _
-    (refused c.in-Broken.at) end.ensures
-    (broken_there (reading rule (take end.result q.file.now)) told.result c.in-Broken.at (told.ensures rule ruled) c.in-Broken.is)
+    leaves_read rule (taken_in rule q.minute q.kind (length q.file.now)) q.size c.smaller-end.result q.file.now q.file.now _
+    (refused c.in-Broken.at) c.smaller-end.ensures
+    (broken_there (reading rule (take c.smaller-end.result q.file.now)) c.read.result c.in-Broken.at (c.read.ensures rule ruled) c.in-Broken.is)
     (record { answer = refl; bytes = refl })
 
 pub returns-in-Good : goal.returns-in-Good
@@ -40,11 +37,6 @@ returns-in-Good c =
     λ rule ruled.
     let q = c.args in
     let file = q.file.now in
-    let end = c.smaller-end in
-    let told = c.read in
-    let count = c.count-1.given in
-    let records = c.records_in-records in
-    let good = good_there rule (take end.result file) (bytes_take file end.result (λ i. (c.slice_known-1.given i).fits)) told.result records.result count.0.0 (told.ensures rule ruled) count.1 records.ensures in
-    let w = c.write_without in
-    leaves_read rule (taken_in rule q.minute q.kind (length file)) q.size end.result file w.new.0 w.result
-    (given (take count.0.0 records.result)) end.ensures good (w.ensures rule ruled)
+    let good = good_there rule (take c.smaller-end.result file) (bytes_take file c.smaller-end.result (λ i. (c.slice_known-1.given i).fits)) c.read.result c.records_in-records.result c.in-Good.count (c.read.ensures rule ruled) c.in-Good.is c.records_in-records.ensures in
+    leaves_read rule (taken_in rule q.minute q.kind (length file)) q.size c.smaller-end.result file c.write_without.new.0 c.write_without.result
+    (given (take c.in-Good.count c.records_in-records.result)) c.smaller-end.ensures good (c.write_without.ensures rule ruled)

@@ -23,8 +23,7 @@ loop-i-preserved c =
     let l = c.loop-i in
     let q = c.args in
     let r = get_or q.t1 l.i blank in
-    let lay = c.lay in
-    (omega arith, laid_on q.t1 l.i l.words lay.new.0 (words_of (figures_of r)) r l.invariant.1 (omega arith) refl lay.ensures.0 lay.ensures.1 refl)
+    (omega arith, laid_on q.t1 l.i l.words c.lay.new.words (words_of (figures_of r)) r l.invariant.1 (omega arith) refl c.lay.ensures.0 c.lay.ensures.1 refl)
 
 pub returns : goal.returns
 returns c =

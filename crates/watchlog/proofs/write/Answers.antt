@@ -19,8 +19,5 @@ pub returns : goal.returns
 returns c =
     λ rule ruled.
     let n : length c.args.records ≡ 48 = c.?good.1.0.1.0.1 in
-    let words = c.words_of-words in
-    let few = c.smaller-end in
-    let w = c.write in
-    wrote_first rule c.args.records words.result n words.ensures c.args.count few.result (length c.args.file.now) few.ensures
-    c.args.file.now w.last.0 w.result refl (w.ensures rule ruled)
+    wrote_first rule c.args.records c.words_of-words.result n c.words_of-words.ensures c.args.count c.smaller-end.result (length c.args.file.now) c.smaller-end.ensures
+    c.args.file.now c.write.last.0 c.write.result refl (c.write.ensures rule ruled)

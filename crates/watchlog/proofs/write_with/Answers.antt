@@ -15,11 +15,8 @@ returns-then-rank_of-rank c =
     λ rule ruled.
     let q = c.args in
     let n : length q.t2 ≡ 48 = c.well_formed.1.0.1.0.1 in
-    let rank = c.rank_of-rank in
-    let place = c.place_of-at in
-    let w = c.write in
-    leaves rule _ q.count q.file.now w.new.0 w.result c.written.result _ (w.ensures rule ruled) c.written.ensures
-    (set_written rule q.t2 n q.count c.requires q.r (length q.file.now) rank.result place.result rank.ensures place.ensures
+    leaves rule _ q.count q.file.now c.write.new.file c.write.result c.written.result _ (c.write.ensures rule ruled) c.written.ensures
+    (set_written rule q.t2 n q.count c.requires q.r (length q.file.now) c.rank_of-rank.result c.place_of-at.result c.rank_of-rank.ensures c.place_of-at.ensures
     c.if-at-count.true (sym c.rank_of.ensures ∙ c.if-rank_of-rank.true))
 
 pub returns : goal.returns
@@ -27,11 +24,7 @@ returns c =
     λ rule ruled.
     let q = c.args in
     let n : length q.t2 ≡ 48 = c.well_formed.1.0.1.0.1 in
-    let rank = c.rank_of-rank in
-    let place = c.place_of-at in
-    let w = c.write-2 in
-    let all = c.pushed in
-    leaves rule _ (q.count + 1) q.file.now w.new.0 w.result c.written-2.result _ (w.ensures rule ruled) c.written-2.ensures
-    (ap (λ (l : List Record). writing rule l (q.count + 1) (length q.file.now)) all.ensures
-    ∙ push_written rule q.t2 n q.count c.requires q.r (length q.file.now) rank.result place.result rank.ensures place.ensures
-    (λ l e. ⊎_elim (λ w. w.3.left (w.2.ensures ∙ e)) (λ w. omega arith) c.if-at-count.branch))
+    leaves rule _ (q.count + 1) q.file.now c.write-2.new.file c.write-2.result c.written-2.result _ (c.write-2.ensures rule ruled) c.written-2.ensures
+    (ap (λ (l : List Record). writing rule l (q.count + 1) (length q.file.now)) c.pushed.ensures
+    ∙ push_written rule q.t2 n q.count c.requires q.r (length q.file.now) c.rank_of-rank.result c.place_of-at.result c.rank_of-rank.ensures c.place_of-at.ensures
+    (λ l e. ⊎_elim (λ c.write-2. c.write-2.3.left (c.write-2.2.ensures ∙ e)) (λ c.write-2. omega arith) c.if-at-count.branch))

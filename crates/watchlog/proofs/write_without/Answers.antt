@@ -13,19 +13,20 @@ use Rattle.watchlog.specs.declared.Placed.TheVariants.{NoRecord}
 use Rattle.watchlog.proofs.PlaceLaws.{leaves}
 use Rattle.watchlog.proofs.OutLaws.{no_kind, out_written, none_written}
 use Rattle.watchlog.proofs.write_without.Goals as goal
+use Rattle.watchlog.proofs.write_without.Goals.{After-place_of-at}
 
 -- nothing is written where there is no such record
 left_alone : (file : Answer Numbered (List ℕ)) (before : List ℕ) → file ≡ refused (numbered NO_RECORD []) → Leaves file before before NoRecord
 left_alone file before e = rw e (record { answer = refl; bytes = refl })
 
 -- of what is known where the place was found
-long : (c : goal.at.After-place_of-at) → length c.args.t2 ≡ 48
+long : (c : After-place_of-at) → length c.args.t2 ≡ 48
 long c = c.well_formed.1.0.1.0.1
 
-right : (c : goal.at.After-place_of-at) → kind_right c.args.kind ≡ true
+right : (c : After-place_of-at) → kind_right c.args.kind ≡ true
 right c = sym c.kind_right.ensures ∙ not-false _ c.if-not-kind_right.false-raw
 
-place : (c : goal.at.After-place_of-at)
+place : (c : After-place_of-at)
     → c.place_of-at.result ≡ place_of (rank c.args.minute c.args.kind) (take c.args.count c.args.t2)
 place c = c.place_of-at.ensures ∙ ap (λ (k : ℕ). place_of k (take c.args.count c.args.t2)) c.rank-wanted.ensures
 
@@ -45,11 +46,9 @@ returns-then-not-kind_right c =
 pub returns-then-rank_of-wanted : goal.returns-then-rank_of-wanted
 returns-then-rank_of-wanted c =
     λ rule ruled.
-    let chosen = c.before.before.before.before.before.before in
-    let found = chosen.before.before.before.before in
+    let found = (goal.at.returns-then-rank_of-wanted c).After-place_of-at in
     let q = c.args in
-    let w = c.write in
-    leaves rule _ (q.count - 1) q.file.now w.new.0 w.result c.written.result _ (w.ensures rule ruled) c.written.ensures
+    leaves rule _ (q.count - 1) q.file.now c.write.new.file c.write.result c.written.result _ (c.write.ensures rule ruled) c.written.ensures
     (out_written rule q.t2 (long found) q.count c.requires q.minute q.kind (length q.file.now)
     c.place_of-at.result (right found) (place found) _ c.pulled.ensures c.if-at-count.true
     (sym c.rank_of.ensures ∙ c.if-rank_of-wanted.true ∙ c.rank-wanted.ensures))
@@ -58,7 +57,7 @@ returns-then-rank_of-wanted c =
 pub returns-else-rank_of-wanted : goal.returns-else-rank_of-wanted
 returns-else-rank_of-wanted c =
     λ rule ruled.
-    let found = c.before.before.before.before in
+    let found = (goal.at.returns-else-rank_of-wanted c).After-place_of-at in
     let q = c.args in
     left_alone _ q.file.now
     (none_written rule q.t2 (long found) q.count c.requires q.minute q.kind (length q.file.now)
@@ -68,7 +67,7 @@ returns-else-rank_of-wanted c =
 pub returns-else-at-count : goal.returns-else-at-count
 returns-else-at-count c =
     λ rule ruled.
-    let found = c.before in
+    let found = (goal.at.returns-else-at-count c).After-place_of-at in
     let q = c.args in
     left_alone _ q.file.now
     (none_written rule q.t2 (long found) q.count c.requires q.minute q.kind (length q.file.now)

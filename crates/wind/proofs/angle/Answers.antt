@@ -8,6 +8,7 @@ use Rattle.wind.specs.Work.{most_ship, most_apparent}
 use Rattle.wind.proofs.SpeedLaws.{cosine_most}
 use Rattle.wind.proofs.AngleLaws.{N_ahead, N_astern, M_is, angle_ahead, angle_astern}
 use Rattle.wind.proofs.angle.Goals as goal
+use Rattle.wind.proofs.angle.Goals.{After-size}
 
 -- the products, in their limits
 record Bounds (s k sines up down : ℕ) : Type 0 where
@@ -17,7 +18,7 @@ record Bounds (s k sines up down : ℕ) : Type 0 where
   against : s * down ≤ most_ship * 1000000
   wind : k ≤ most_apparent
 
-bounds : (c : goal.at.After-size) → Bounds c.args.s c.args.k c.size.result c.cosine-c.result.up c.cosine-c.result.down
+bounds : (c : After-size) → Bounds c.args.s c.args.k c.size.result c.cosine-c.result.up c.cosine-c.result.down
 bounds c =
     let a = c.args in
     let ship = c.requires.0 in
@@ -32,19 +33,19 @@ bounds c =
     }
 
 pub overflow_mul-across : goal.overflow_mul-across
-overflow_mul-across c = omega (arith, bounds c)
+overflow_mul-across c = omega (arith, bounds (goal.at.overflow_mul-across c).After-size)
 
 pub overflow_mul-along : goal.overflow_mul-along
-overflow_mul-along c = omega (arith, bounds c.before)
+overflow_mul-along c = omega (arith, bounds (goal.at.overflow_mul-along c).After-size)
 
 pub overflow_mul-ahead-2 : goal.overflow_mul-ahead-2
-overflow_mul-ahead-2 c = omega (arith, bounds c.before.before)
+overflow_mul-ahead-2 c = omega (arith, bounds (goal.at.overflow_mul-ahead-2 c).After-size)
 
 pub overflow_add-ahead : goal.overflow_add-ahead
-overflow_add-ahead c = omega (arith, bounds c.before.before)
+overflow_add-ahead c = omega (arith, bounds (goal.at.overflow_add-ahead c).After-size)
 
 pub quarter-requires : goal.quarter-requires
-quarter-requires c = omega (arith, bounds c.before.before.before)
+quarter-requires c = omega (arith, bounds (goal.at.quarter-requires c).After-size)
 
 pub returns-then-along-ahead : goal.returns-then-along-ahead
 returns-then-along-ahead c =
@@ -53,7 +54,7 @@ returns-then-along-ahead c =
     (c.quarter.ensures.0 ∙ sym (angle_ahead a.s a.k a.r _ _ (M_is a.s a.r c.size.ensures) ahead (omega (arith, c.if-along-ahead.true))), omega arith)
 
 pub quarter-requires-2 : goal.quarter-requires-2
-quarter-requires-2 c = omega (arith, bounds c.before.before.before)
+quarter-requires-2 c = omega (arith, bounds (goal.at.quarter-requires-2 c).After-size)
 
 pub returns : goal.returns
 returns c =

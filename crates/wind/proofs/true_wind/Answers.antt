@@ -9,11 +9,12 @@ use Rattle.quantity.specs.Limits.{knots, metres_per_second}
 use Rattle.wind.specs.Answer.{within_limits}
 use Rattle.wind.proofs.LimitLaws.{speeds_most}
 use Rattle.wind.proofs.true_wind.Goals as goal
+use Rattle.wind.proofs.true_wind.Goals.{After-parts-k, Else-not-within_limits}
 
-inside : (c : goal.at.Else-not-within_limits) → within_limits c.args.course.0 c.args.ship.0 c.args.apparent.0 c.args.from-bow.0 ≡ true
+inside : (c : Else-not-within_limits) → within_limits c.args.course.0 c.args.ship.0 c.args.apparent.0 c.args.from-bow.0 ≡ true
 inside c = sym c.within_limits.ensures ∙ not-false _ c.if-not-within_limits.false-raw
 
-most : (c : goal.at.Else-not-within_limits) → (c.args.ship.0 ≤ nat_abs knots.high) × (c.args.apparent.0 ≤ nat_abs metres_per_second.high)
+most : (c : Else-not-within_limits) → (c.args.ship.0 ≤ nat_abs knots.high) × (c.args.apparent.0 ≤ nat_abs metres_per_second.high)
 most c =
     let a = c.args in
     speeds_most a.course.0 a.ship.0 a.apparent.0 a.from-bow.0 (inside c)
@@ -22,19 +23,19 @@ pub returns-then-not-within_limits : goal.returns-then-not-within_limits
 returns-then-not-within_limits c = sym c.within_limits.ensures ∙ not-true _ c.if-not-within_limits.true-raw
 
 pub speed-v-requires : goal.speed-v-requires
-speed-v-requires c = omega (arith, most c.before.before.before.before, c.parts-s.ensures, c.parts-k.ensures, c.keep-r.ensures)
+speed-v-requires c = omega (arith, most (goal.at.speed-v-requires c).Else-not-within_limits, c.parts-s.ensures, c.parts-k.ensures, c.keep-r.ensures)
 
 pub angle-a-requires : goal.angle-a-requires
-angle-a-requires c = omega (arith, most c.before.before.before.before.before, c.parts-s.ensures, c.parts-k.ensures, c.keep-r.ensures)
+angle-a-requires c = omega (arith, most (goal.at.angle-a-requires c).Else-not-within_limits, c.parts-s.ensures, c.parts-k.ensures, c.keep-r.ensures)
 
 pub returns : goal.returns
 returns c =
-    let at = c.before.before.before in
+    let at = (goal.at.returns c).After-parts-k in
     let ship = c.parts-s.ensures in
     let wind = c.parts-k.ensures in
     let bow = c.keep-r.ensures in
     let course = c.keep-c.ensures in (
-      inside at.before.before.before.before,
+      inside (goal.at.returns c).Else-not-within_limits,
       record {
         speed = rw (ship, wind, bow) at c.speed-v.ensures;
         direction = rw (c.angle-a.ensures.0, ship, wind, bow, course) at c.from-d.ensures;

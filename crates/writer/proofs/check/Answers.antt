@@ -16,9 +16,10 @@ use Rattle.writer.proofs.SizeLaws.{length_file}
 use Rattle.writer.proofs.RestLaws.{rest, at, rest_whole, rest_done, rest_past, rest_shorter, bodies_shorter, bodies_none, tests_on, tests_stop, tests_none}
 use Rattle.writer.proofs.WriteLaws.{past_stops, past_goes_on, length_offered, offered_at}
 use Rattle.writer.proofs.check.Goals as goal
+use Rattle.writer.proofs.check.Goals.{After-record_at-r}
 
 -- the record that is looked at is that of the list
-looked-at : (c : goal.at.After-record_at-r invariant-loop decreases-loop) →
+looked-at : (c : After-record_at-r invariant-loop decreases-loop) →
     c.record_at-r.result ≡ at (offered c.?records.now) c.loop-i.i
 looked-at c =
     let w = c.args.records.now in
@@ -52,7 +53,7 @@ returns-then-not-record_right c =
     let count = c.args.count in
     let file = length (file_of (take count all)) in
     let wrong = not-true c.record_right.result c.if-not-record_right.true-raw in
-    let is = looked-at c.before.before in
+    let is = looked-at (goal.at.returns-then-not-record_right c).After-record_at-r in
     let inside : l.i < length all = omega (arith, length_offered w, c.requires) in
     record {
       room = tt;
@@ -75,7 +76,7 @@ loop-i-preserved c =
     let inside : l.i < length all = omega (arith, length_offered w, c.requires, c.if-i-ge-RECORDS.false) in
     let file = length (file_of (take count all)) in
     let r = c.record_at-r.result in
-    let is : r ≡ at all l.i = looked-at c.before.before.before.before.before in
+    let is : r ≡ at all l.i = looked-at (goal.at.loop-i-preserved c).After-record_at-r in
     let q : c.kind-kind.result ≡ kind_of (at all l.i).body = c.kind-kind.ensures ∙ ap (λ (x : Record). kind_of x.body) is in
     let z : c.?type_size.result ≡ size_of (kind_of (at all l.i).body) = c.?type_size.ensures ∙ ap size_of q in
     let k : c.rank-before.result ≡ rank (at all l.i).minute (kind_of (at all l.i).body) = c.rank-before.ensures ∙ ap (rank r.minute) q ∙ ap (λ (x : Record). rank x.minute (kind_of (at all l.i).body)) is in

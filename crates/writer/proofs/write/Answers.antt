@@ -17,49 +17,38 @@ pub returns-then-buffer-size : goal.returns-then-buffer-size
 returns-then-buffer-size c =
     let start = c.args in
     let w = start.records.now in
-    let q = c.check in
     λ rule dew.
     subst (λ (n : ℕ). Wrote rule (offered w) n start.buffer.now start.buffer.now (TooShort c.in-Needs.size)) c.count-count.ensures
-    (wrote_short (offered w) c.count-count.result q.result q.ensures start.buffer.now c.in-Needs.size c.in-Needs.is c.if-buffer-size.true rule dew)
+    (wrote_short (offered w) c.count-count.result c.check.result c.check.ensures start.buffer.now c.in-Needs.size c.in-Needs.is c.if-buffer-size.true rule dew)
 
 pub write_head-requires : goal.write_head-requires
 write_head-requires c =
     let start = c.args in
     let w = start.records.now in
-    let count = c.count-count in
-    let q = c.check in
-    let size = c.size-1.given in
-    let asked = room_asked (offered w) count.result q.result q.ensures start.buffer.now size.0.0 size.1 (length_offered w ∙ ap (λ (n : ℕ). min n 48) (sym count.ensures)) in
-    (omega arith, (needed (offered w) count.result q.result q.ensures start.buffer.now size.0.0 size.1).0)
+    let asked = room_asked (offered w) c.count-count.result c.check.result c.check.ensures start.buffer.now c.in-Needs.size c.in-Needs.is (length_offered w ∙ ap (λ (n : ℕ). min n 48) (sym c.count-count.ensures)) in
+    (omega arith, (needed (offered w) c.count-count.result c.check.result c.check.ensures start.buffer.now c.in-Needs.size c.in-Needs.is).0)
 
 pub write_records-requires : goal.write_records-requires
 write_records-requires c =
     let start = c.args in
     let w = start.records.now in
-    let count = c.count-count in
-    let q = c.check in
-    let size = c.size-1.given in
-    let asked = room_asked (offered w) count.result q.result q.ensures start.buffer.now size.0.0 size.1 (length_offered w ∙ ap (λ (n : ℕ). min n 48) (sym count.ensures)) in
-    let same = ap length c.write_head.ensures ∙ length-sets start.buffer.now 0 (0x57 ∷ 0x54 ∷ 1 ∷ count.result ∷ []) in
-    (sym count.ensures, omega arith, (needed (offered w) count.result q.result q.ensures start.buffer.now size.0.0 size.1).0)
+    let asked = room_asked (offered w) c.count-count.result c.check.result c.check.ensures start.buffer.now c.in-Needs.size c.in-Needs.is (length_offered w ∙ ap (λ (n : ℕ). min n 48) (sym c.count-count.ensures)) in
+    let same = ap length c.write_head.ensures ∙ length-sets start.buffer.now 0 (0x57 ∷ 0x54 ∷ 1 ∷ c.count-count.result ∷ []) in
+    (sym c.count-count.ensures, omega arith, (needed (offered w) c.count-count.result c.check.result c.check.ensures start.buffer.now c.in-Needs.size c.in-Needs.is).0)
 
 pub returns-in-BreaksRules : goal.returns-in-BreaksRules
 returns-in-BreaksRules c =
     let start = c.args in
     let w = start.records.now in
-    let q = c.check in
     λ rule dew.
     subst (λ (n : ℕ). Wrote rule (offered w) n start.buffer.now start.buffer.now (BreaksRules c.in-BreaksRules.i)) c.count-count.ensures
-    (wrote_breaks (offered w) c.count-count.result q.result q.ensures start.buffer.now c.in-BreaksRules.i c.in-BreaksRules.is rule dew)
+    (wrote_breaks (offered w) c.count-count.result c.check.result c.check.ensures start.buffer.now c.in-BreaksRules.i c.in-BreaksRules.is rule dew)
 
 pub returns-else-buffer-size : goal.returns-else-buffer-size
 returns-else-buffer-size c =
     let start = c.args in
     let w = start.records.now in
-    let count = c.count-count in
-    let q = c.check in
-    let size = c.size-1.given in
     λ rule dew.
-    subst (λ (n : ℕ). Wrote rule (offered w) n start.buffer.now c.write_records.new.buffer (Done size.0.0)) count.ensures
-    (wrote_done (offered w) count.result q.result q.ensures start.buffer.now size.0.0 size.1 c.if-buffer-size.false c.write_head.new.buffer c.write_records.new.buffer
-    (length_offered w ∙ ap (λ (n : ℕ). min n 48) (sym count.ensures)) c.write_head.ensures c.write_records.ensures rule dew)
+    subst (λ (n : ℕ). Wrote rule (offered w) n start.buffer.now c.write_records.new.buffer (Done c.in-Needs.size)) c.count-count.ensures
+    (wrote_done (offered w) c.count-count.result c.check.result c.check.ensures start.buffer.now c.in-Needs.size c.in-Needs.is c.if-buffer-size.false c.write_head.new.buffer c.write_records.new.buffer
+    (length_offered w ∙ ap (λ (n : ℕ). min n 48) (sym c.count-count.ensures)) c.write_head.ensures c.write_records.ensures rule dew)

@@ -9,6 +9,7 @@ use Rattle.octets.specs.Bytes.{bytes16}
 use Rattle.watchfile.specs.Format.{body_bytes}
 use Rattle.watchfile.specs.declared.Body.TheVariants.{Humidity}
 use Rattle.writer.proofs.write_humidity.Goals as goal
+use Rattle.writer.proofs.write_humidity.Goals.{After-slice_known-5-1}
 
 pub returns : goal.returns
 returns c =
@@ -28,8 +29,8 @@ put16-requires-4 c = simp length-set (omega arith)
 pub shape_of-part : goal.shape_of-part
 shape_of-part c =
     let start = c.args in
-    ap length (whole c)
+    ap length (whole (goal.at.shape_of-part c).After-slice_known-5-1)
     ∙ length-sets start.part.now 0 (body_bytes (Humidity start.e start.saturation start.deficit start.relative start.dew))
 
 pub returns : goal.returns
-returns c = whole c
+returns c = whole (goal.at.returns c).After-slice_known-5-1

@@ -16,9 +16,10 @@ use Rattle.writer.proofs.RestLaws.{rest, at, rest_whole, rest_done, bodies_short
 use Rattle.writer.proofs.TurnLaws.{row_put_length, body_room, put_length, put_turn}
 use Rattle.writer.proofs.WriteLaws.{length_offered, offered_at}
 use Rattle.writer.proofs.write_records.Goals as goal
+use Rattle.writer.proofs.write_records.Goals.{After-record_at-r, After-write_row}
 
 -- the record that is written is that of the list
-looked-at : (c : goal.at.After-record_at-r invariant-loop decreases-loop) →
+looked-at : (c : After-record_at-r invariant-loop decreases-loop) →
     let all = offered c.args.records.now in
     (c.record_at-r.result ≡ at all c.loop-i.i) × (c.loop-i.i < length all)
 looked-at c =
@@ -29,7 +30,7 @@ looked-at c =
     )
 
 -- and its row has its kind and minute
-row_first : (c : goal.at.After-write_row invariant-loop decreases-loop) →
+row_first : (c : After-write_row invariant-loop decreases-loop) →
     let l = c.loop-i in
     let all = offered c.args.records.now in
     c.write_row.new.part ≡ sets (part l.buffer l.row) 0 (row_bytes (at all l.i) l.at)
@@ -54,16 +55,16 @@ pub slice_bounds-write_body-start : goal.slice_bounds-write_body-start
 slice_bounds-write_body-start c =
     let l = c.loop-i in
     let all = offered c.args.records.now in
-    let same = row_put_length all c.args.count l.i l.row l.at l.buffer c.write_row.new.part c.loop-i-test.true (looked-at c.before.before.before.before.before).1 l.invariant.2 l.invariant.4 (omega arith) (row_first c.before.before) in
+    let same = row_put_length all c.args.count l.i l.row l.at l.buffer c.write_row.new.part c.loop-i-test.true (looked-at (goal.at.slice_bounds-write_body-start c).After-record_at-r).1 l.invariant.2 l.invariant.4 (omega arith) (row_first (goal.at.slice_bounds-write_body-start c).After-write_row) in
     omega arith
 
 pub write_body-requires : goal.write_body-requires
 write_body-requires c =
     let l = c.loop-i in
     let all = offered c.args.records.now in
-    let is = looked-at c.before.before.before.before.before.before in
+    let is = looked-at (goal.at.write_body-requires c).After-record_at-r in
     rw is.0
-    (body_room all c.args.count l.i l.row l.at l.buffer c.write_row.new.part c.loop-i-test.true is.1 l.invariant.2 l.invariant.4 (omega arith) (row_first c.before.before.before))
+    (body_room all c.args.count l.i l.row l.at l.buffer c.write_row.new.part c.loop-i-test.true is.1 l.invariant.2 l.invariant.4 (omega arith) (row_first (goal.at.write_body-requires c).After-write_row))
 
 pub overflow_add-at-in-loop-i : goal.overflow_add-at-in-loop-i
 overflow_add-at-in-loop-i c = omega (arith, size_most c.kind-kind.result)
@@ -74,9 +75,9 @@ loop-i-preserved c =
     let all = offered c.args.records.now in
     let count = c.args.count in
     let more = c.loop-i-test.true in
-    let is = looked-at c.before.before.before.before.before.before.before.before.before.before in
+    let is = looked-at (goal.at.loop-i-preserved c).After-record_at-r in
     let room : l.at + length (bodies_bytes (rest all count l.i)) ≤ length l.buffer = omega arith in
-    let row = c.before.before.before.before.before.before.before in
+    let row = (goal.at.loop-i-preserved c).After-write_row in
     let first = row_first row in
     let whole = sets (sets c.args.buffer.now 4 (rows_bytes (take count all) (start_of count))) (start_of count) (bodies_bytes (take count all)) in
     let second = c.write_body.ensures ∙ ap (λ (x : Record). sets (part (joined l.buffer l.row c.write_row.new.part) l.at) 0 (body_bytes x.body)) is.0 in

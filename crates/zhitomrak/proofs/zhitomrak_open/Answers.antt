@@ -5,13 +5,14 @@ use Rattle.settings.specs.Settings.{checked}
 use Rattle.store.specs.Block.{opened_by}
 use Rattle.number.specs.Refusal.{number_in}
 use Rattle.zhitomrak.proofs.zhitomrak_open.Goals as goal
+use Rattle.zhitomrak.proofs.zhitomrak_open.Goals.{After-open}
 
 pub returns-then-settings-gt1 : goal.returns-then-settings-gt1
 returns-then-settings-gt1 c = record { answer = rw (lt-ltb _ _ c.if-settings-gt1.true); block = rw (lt-ltb _ _ c.if-settings-gt1.true) }
 
 pub returns : goal.returns
 returns c =
-    let it = c.before.«open».ensures in
+    let it = (goal.at.returns c)After-open.«open».ensures in
     let g = c.settings_in.ensures in
     let unit = le-ltb _ _ c.if-settings-gt1.false in
     record {
