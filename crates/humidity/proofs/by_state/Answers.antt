@@ -65,15 +65,15 @@ pub on_ice-requires : goal.on_ice-requires
 on_ice-requires c =
     let i = c.before in
     let n = (goal.at.on_ice-requires c).In-Ice-1 in
-    ice-of c.number-t.ensures.value c.number-u.ensures.value c.number-k.ensures.value _ (start n)args.w _ (start n).requires
-    (frozen (start n)args.wet.0.v c.saturation_over_ice.result c.in-Entry.i c.in-Entry.is c.saturation_over_ice.ensures)
+    ice-of c.number-t.ensures.value c.number-u.ensures.value c.number-k.ensures.value _ (start n) args.w _ (start n).requires
+    (frozen (start n) args.wet.0.v c.saturation_over_ice.result c.in-Entry.i c.in-Entry.is c.saturation_over_ice.ensures)
 
 pub in_doubt-requires : goal.in_doubt-requires
 in_doubt-requires c =
     let i = c.before in
     let n = (goal.at.in_doubt-requires c).In-Unknown-1 in
     both_of c.number-t.ensures.value c.number-u.ensures.value c.number-k.ensures.value _ _ _ (start n).requires
-    (frozen (start n)args.wet.0.v c.saturation_over_ice-in-Unknown.result c.in-Entry-saturation_over_ice.i c.in-Entry-saturation_over_ice.is c.saturation_over_ice-in-Unknown.ensures)
+    (frozen (start n) args.wet.0.v c.saturation_over_ice-in-Unknown.result c.in-Entry-saturation_over_ice.i c.in-Entry-saturation_over_ice.is c.saturation_over_ice-in-Unknown.ensures)
 
 pub returns-in-Water : goal.returns-in-Water
 returns-in-Water c =

@@ -39,12 +39,12 @@ high_is c =
 pub plus-tenths-requires : goal.plus-tenths-requires
 plus-tenths-requires c =
     let at = (goal.at.plus-tenths-requires c).After-temperature_correction-warm in
-    omega (arith, warm-size at, c.plus.ensures.size, (start at)requires.0, (start at)requires.1)
+    omega (arith, warm-size at, c.plus.ensures.size, (start at) requires.0, (start at) requires.1)
 
 pub times-requires : goal.times-requires
 times-requires c =
     let at = (goal.at.times-requires c).After-temperature_correction-warm in
-    omega (arith, warm-size at, c.plus-tenths.ensures.size, c.plus.ensures.size, (start at)requires.0, (start at)requires.1)
+    omega (arith, warm-size at, c.plus-tenths.ensures.size, c.plus.ensures.size, (start at) requires.0, (start at) requires.1)
 
 pub plus-requires-2 : goal.plus-requires-2
 plus-requires-2 c =
@@ -56,8 +56,8 @@ plus-requires-2 c =
       c.times.ensures.size,
       c.plus-tenths.ensures.size,
       c.plus.ensures.size,
-      (start at)requires.0,
-      (start at)requires.1,
+      (start at) requires.0,
+      (start at) requires.1,
     )
 
 pub returns : goal.returns
@@ -74,7 +74,7 @@ returns c =
         c.times.ensures.size,
         c.plus-tenths.ensures.size,
         c.plus.ensures.size,
-        (start at)requires.0,
-        (start at)requires.1,
+        (start at) requires.0,
+        (start at) requires.1,
       );
     }

@@ -12,10 +12,10 @@ product : (i : ℕ) {x r : ℕ} → x ≤ most_side → r ≡ entry i → x * r 
 product i {x} {r} h e = mul-le-mul {m₂ = 1000000} h (omega (arith, small i))
 
 pub overflow_mul-result : goal.overflow_mul-result
-overflow_mul-result c =omega (arith, product _ c.requires.1 c.mark-m.ensures.0)
+overflow_mul-result c = omega (arith, product _ c.requires.1 c.mark-m.ensures.0)
 
 pub overflow_mul-result-2 : goal.overflow_mul-result-2
-overflow_mul-result-2 c =omega (arith, product _ c.requires.0 c.mark-m.ensures.1)
+overflow_mul-result-2 c = omega (arith, product _ c.requires.0 c.mark-m.ensures.1)
 
 pub returns : goal.returns
 unfolding leans

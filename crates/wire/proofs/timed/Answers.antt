@@ -50,10 +50,10 @@ returns-then-not-is_finite-2 c =
     )
 
 pub float_of-requires : goal.float_of-requires
-float_of-requires c =subst T (sym (sym c.is_finite.ensures ∙ not-false _ c.if-not-is_finite.false-raw)) tt
+float_of-requires c = subst T (sym (sym c.is_finite.ensures ∙ not-false _ c.if-not-is_finite.false-raw)) tt
 
 pub float_of-requires-2 : goal.float_of-requires-2
-float_of-requires-2 c =subst T (sym (sym c.is_finite-2.ensures ∙ not-false _ c.if-not-is_finite-2.false-raw)) tt
+float_of-requires-2 c = subst T (sym (sym c.is_finite-2.ensures ∙ not-false _ c.if-not-is_finite-2.false-raw)) tt
 
 pub returns : goal.returns
 unfolding answer
