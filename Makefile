@@ -16,18 +16,16 @@ all: library lister
 
 # What is missing, or older than the text of the crates, is proved and built.
 library:
-	@if [ ! -e $(LIBRARY) ] || [ -n "$$(find crates crates.txt -newer $(LIBRARY))" ]; then \
+	@if [ ! -e $(LIBRARY) ] || [ -n "$$(find crates crates.txt -name out -prune -o -newer $(LIBRARY) -print)" ]; then \
 		echo "Proves and builds $(LIBRARY); where nothing is proved yet that takes some minutes."; \
 	fi
 	@rust/library tell
 
 lister:
-	@if [ ! -e $(LISTER) ] || [ -n "$$(find crates crates.txt -newer $(LISTER))" ]; then \
+	@if [ ! -e $(LISTER) ] || [ -n "$$(find crates crates.txt -name out -prune -o -newer $(LISTER) -print)" ]; then \
 		echo "Proves and builds $(LISTER)."; \
-		mkdir -p target/log; \
-		rt check lister >target/log/lister.out 2>&1 || { cat target/log/lister.out; exit 1; }; \
-		touch $(LISTER); \
 	fi
+	@tests/program lister
 
 tool: library
 	@rust/tool/cargo build

@@ -20,15 +20,12 @@ struct Text {
     imports: BTreeMap<String, Meaning>,
 }
 
-// The file of a module such as Rattle·store.specs.History or Rattle·store·specs.specs.History. None for a library, for what is
-// declared in src/, and for a contract.
+// The file of a module such as Rattle.store.specs.History. None for the library's, for what is declared in src/, and for a contract.
 fn file_of(module: &str) -> Option<String> {
-    let rest = module.strip_prefix("Rattle·")?;
-    let (head, tail) = rest.split_once(".specs.")?;
-    if tail.contains('.') {
+    let (name, tail) = module.strip_prefix("Rattle.")?.split_once(".specs.")?;
+    if name == "std" || name.contains('.') || tail.contains('.') {
         return None;
     }
-    let name = head.split('·').next()?;
     Some(format!("crates/{name}/specs/{tail}.antt"))
 }
 
@@ -125,11 +122,12 @@ fn main() {
         }
         for line in &text.lines[definition] {
             for word in words(line) {
-                let (first, rest) = match word.split_once('.') {
-                    Some((a, b)) => (a.to_string(), b.to_string()),
-                    None => (word.clone(), String::new()),
-                };
-                match text.imports.get(&word).or_else(|| text.imports.get(&first)) {
+                // a field is written behind its value
+                let mut parts = word.split('.');
+                let first = parts.next().unwrap_or_default().to_string();
+                let rest = parts.next().unwrap_or_default().to_string();
+                let word = if text.imports.contains_key(&word) || text.names.contains_key(&word) { word } else { first.clone() };
+                match text.imports.get(&word) {
                     Some(Meaning::Definition(f, n)) => open.push((f.clone(), n.clone())),
                     Some(Meaning::File(f)) if !rest.is_empty() => open.push((f.clone(), rest)),
                     _ => {

@@ -1,5 +1,6 @@
 // What ships' software calls besides: settings read back, messages by the many, what is kept, answers as records, records in a file, and
-// sentences. It is a second object of the static library, so that `zhitomrak` beside it is compiled as if it were alone.
+// sentences. `bridge_c` exports it as a second object of the static library, so that `zhitomrak_c` beside it is compiled as if it were
+// alone.
 // Any block, bytes, numbers and room get an answer. Two numbers are none of the documents': 255, the block was never opened; 254, there is
 // no such record to take out.
 #![tactic(auto)]
@@ -26,8 +27,7 @@ use told::{HumidityTold, PressureTold, Refusal, TendencyTold, WindTold};
 // ---- settings and messages
 
 // Puts the settings that a store was opened with into the lent sheet: 0; or 255, and the sheet stays as it was.
-#[unsafe(no_mangle)]
-pub extern "C" fn zhitomrak_settings_of(store: &Store, settings: &mut Sheet) -> u32
+pub fn zhitomrak_settings_of(store: &Store, settings: &mut Sheet) -> u32
     ensures { SettingsAs store.now store.now settings.old settings.new result }
 {
     if !block::is_store(store) {
@@ -39,8 +39,7 @@ pub extern "C" fn zhitomrak_settings_of(store: &Store, settings: &mut Sheet) -> 
 
 // Cuts the bytes into messages of 16 and hears each, in order, and adds what each came to to the count of its number; the largest count
 // stays. What is left of a message at the end is heard too, and refused 1.
-#[unsafe(no_mangle)]
-pub extern "C" fn zhitomrak_hear_all(store: &mut Store, bytes: &[u8], counts: &mut [u64; NUMBERS])
+pub fn zhitomrak_hear_all(store: &mut Store, bytes: &[u8], counts: &mut [u64; NUMBERS])
     ensures { HearsAll store.old store.new (messages bytes.now) counts.old counts.new }
 {
     let before = Counts { of: *counts };
@@ -52,29 +51,21 @@ pub extern "C" fn zhitomrak_hear_all(store: &mut Store, bytes: &[u8], counts: &m
 // ---- what is kept
 
 // The newest minute of a channel; or 2, or 11 where nothing is heard of it yet.
-#[unsafe(no_mangle)]
-pub extern "C" fn zhitomrak_newest(store: &Store, channel: u32) -> NewestTold
+pub fn zhitomrak_newest(store: &Store, channel: u32) -> NewestTold
     ensures { (result ≡ newest_in (newest_of store.now channel)) × (store.now ≡ store.now) }
 {
     kept::newest(store, channel)
 }
 
 // The reading that is kept of a channel's minute; or 2, 5 or 11.
-#[unsafe(no_mangle)]
-pub extern "C" fn zhitomrak_reading(store: &Store, channel: u32, minute: u32) -> ReadingTold
+pub fn zhitomrak_reading(store: &Store, channel: u32, minute: u32) -> ReadingTold
     ensures { (result ≡ reading_in (reading_of store.now channel minute)) × (store.now ≡ store.now) }
 {
     kept::reading(store, channel, minute)
 }
 
 // Which minutes of a stretch have a reading: 1, else 0, in a byte for each from the first on. Or 2, and every byte stays.
-#[unsafe(no_mangle)]
-pub extern "C" fn zhitomrak_stretch(
-    store: &Store,
-    channel: u32,
-    first: u32,
-    minutes: &mut [u8],
-) -> u32
+pub fn zhitomrak_stretch(store: &Store, channel: u32, first: u32, minutes: &mut [u8]) -> u32
     ensures { Marks store.now channel first minutes.old minutes.new result × (store.now ≡ store.now) }
 {
     kept::stretch(store, channel, first, minutes)
@@ -83,13 +74,7 @@ pub extern "C" fn zhitomrak_stretch(
 // ---- watch files
 
 // Asks the question of a kind, and puts its answer's record into the lent words; or the question's refusal, or 16, and the words stay.
-#[unsafe(no_mangle)]
-pub extern "C" fn zhitomrak_record_of(
-    store: &Store,
-    kind: u32,
-    minute: u32,
-    words: &mut Words,
-) -> Refusal
+pub fn zhitomrak_record_of(store: &Store, kind: u32, minute: u32, words: &mut Words) -> Refusal
     ensures { RecordedBy kind store.now minute words.old words.new result × (store.now ≡ store.now) }
 {
     entered::record(store, kind, minute, words)
@@ -98,8 +83,7 @@ pub extern "C" fn zhitomrak_record_of(
 // Puts a record in its place in the watch file that the first `size` bytes of the lent buffer are; one of the same minute and kind is
 // replaced. Or 18 with the place where that file is broken, 16 with the index of the record in the new one, or of the 49th, or 17 with
 // the bytes needed, and every byte stays.
-#[unsafe(no_mangle)]
-pub extern "C" fn zhitomrak_place(buffer: &mut [u8], size: usize, words: &Words) -> PlaceTold
+pub fn zhitomrak_place(buffer: &mut [u8], size: usize, words: &Words) -> PlaceTold
     ensures { (rule : ℕ → ℤ) → DewRule rule → PlacedAs rule size words.now buffer.old buffer.new result }
 {
     filed::place_told(watchlog::place(buffer, size, handed::record_at(words, 0)))
@@ -107,13 +91,7 @@ pub extern "C" fn zhitomrak_place(buffer: &mut [u8], size: usize, words: &Words)
 
 // Takes the record of a minute and a kind out of that file. Or 18 with the place, or 254 where there is no such record, and every byte
 // stays.
-#[unsafe(no_mangle)]
-pub extern "C" fn zhitomrak_take_out(
-    buffer: &mut [u8],
-    size: usize,
-    kind: u32,
-    minute: u32,
-) -> PlaceTold
+pub fn zhitomrak_take_out(buffer: &mut [u8], size: usize, kind: u32, minute: u32) -> PlaceTold
     ensures { (rule : ℕ → ℤ) → DewRule rule → TakenAs rule size kind minute buffer.old buffer.new result }
 {
     filed::place_told(watchlog::take_out(buffer, size, minute, kind))
@@ -139,8 +117,7 @@ fn put_refused(text: &mut [u8], refusal: Refusal) -> usize
 }
 
 // A refusal, by its number and what it also returns, in their order.
-#[unsafe(no_mangle)]
-pub extern "C" fn zhitomrak_say_refusal(
+pub fn zhitomrak_say_refusal(
     number: u32,
     first: u64,
     second: u64,
@@ -153,8 +130,7 @@ pub extern "C" fn zhitomrak_say_refusal(
 }
 
 // A pressure, or why there is none.
-#[unsafe(no_mangle)]
-pub extern "C" fn zhitomrak_say_pressure(told: PressureTold, text: &mut [u8; SENTENCE]) -> usize
+pub fn zhitomrak_say_pressure(told: PressureTold, text: &mut [u8; SENTENCE]) -> usize
     ensures { Says (pressure_said told) text.new result }
 {
     *text = [0u8; SENTENCE];
@@ -167,8 +143,7 @@ pub extern "C" fn zhitomrak_say_pressure(told: PressureTold, text: &mut [u8; SEN
 }
 
 // A tendency, or why there is none.
-#[unsafe(no_mangle)]
-pub extern "C" fn zhitomrak_say_tendency(told: TendencyTold, text: &mut [u8; SENTENCE]) -> usize
+pub fn zhitomrak_say_tendency(told: TendencyTold, text: &mut [u8; SENTENCE]) -> usize
     ensures { Says (tendency_said told) text.new result }
 {
     *text = [0u8; SENTENCE];
@@ -181,8 +156,7 @@ pub extern "C" fn zhitomrak_say_tendency(told: TendencyTold, text: &mut [u8; SEN
 }
 
 // A wind, or why there is none.
-#[unsafe(no_mangle)]
-pub extern "C" fn zhitomrak_say_wind(told: WindTold, text: &mut [u8; SENTENCE]) -> usize
+pub fn zhitomrak_say_wind(told: WindTold, text: &mut [u8; SENTENCE]) -> usize
     ensures { Says (wind_said told) text.new result }
 {
     *text = [0u8; SENTENCE];
@@ -194,8 +168,7 @@ pub extern "C" fn zhitomrak_say_wind(told: WindTold, text: &mut [u8; SENTENCE]) 
 }
 
 // A humidity, or why there is none.
-#[unsafe(no_mangle)]
-pub extern "C" fn zhitomrak_say_humidity(told: HumidityTold, text: &mut [u8; SENTENCE]) -> usize
+pub fn zhitomrak_say_humidity(told: HumidityTold, text: &mut [u8; SENTENCE]) -> usize
     ensures { Says (humidity_said told) text.new result }
 {
     *text = [0u8; SENTENCE];
@@ -216,8 +189,7 @@ pub extern "C" fn zhitomrak_say_humidity(told: HumidityTold, text: &mut [u8; SEN
 }
 
 // A reading, or why there is none.
-#[unsafe(no_mangle)]
-pub extern "C" fn zhitomrak_say_reading(told: ReadingTold, text: &mut [u8; SENTENCE]) -> usize
+pub fn zhitomrak_say_reading(told: ReadingTold, text: &mut [u8; SENTENCE]) -> usize
     ensures { Says (reading_said told) text.new result }
 {
     *text = [0u8; SENTENCE];

@@ -1,0 +1,165 @@
+// The second object of the static library for C: each function of `bridge`, under its own name and with its own clauses.
+#![tactic(auto)]
+
+ghost use Rattle.std.specs.Prelude.{◌≡◌, ℕ, ℤ};
+ghost use Rattle.text.specs.Text.{Put};
+ghost use Rattle.spoken.specs.Refusals.{refusal_text};
+ghost use Rattle.desk.specs.Counting.{messages, HearsAll};
+ghost use Rattle.watchfile.specs.Format.{DewRule};
+ghost use Rattle.kept.specs.Kept.{newest_in, newest_of, reading_in, reading_of, Marks};
+ghost use Rattle.entered.specs.Entered.{RecordedBy};
+ghost use Rattle.bridge.specs.Calls.{SettingsAs, PlacedAs, TakenAs};
+ghost use Rattle.bridge.specs.Sentences.{refused_text, pressure_said, tendency_said, wind_said, humidity_said, reading_said, Says};
+
+use block::{NO_STORE, Store};
+use desk::{Counts, NUMBERS};
+use entered::Words;
+use filed::PlaceTold;
+use kept::{NewestTold, ReadingTold};
+use sheet::Sheet;
+use spoken::SENTENCE;
+use told::{HumidityTold, PressureTold, Refusal, TendencyTold, WindTold};
+
+// ---- settings and messages
+
+// Puts the settings that a store was opened with into the lent sheet: 0; or 255, and the sheet stays as it was.
+#[unsafe(no_mangle)]
+pub extern "C" fn zhitomrak_settings_of(store: &Store, settings: &mut Sheet) -> u32
+    ensures { SettingsAs store.now store.now settings.old settings.new result }
+{
+    bridge::zhitomrak_settings_of(store, settings)
+}
+
+// Cuts the bytes into messages of 16 and hears each, in order, and adds what each came to to the count of its number; the largest count
+// stays. What is left of a message at the end is heard too, and refused 1.
+#[unsafe(no_mangle)]
+pub extern "C" fn zhitomrak_hear_all(store: &mut Store, bytes: &[u8], counts: &mut [u64; NUMBERS])
+    ensures { HearsAll store.old store.new (messages bytes.now) counts.old counts.new }
+{
+    bridge::zhitomrak_hear_all(store, bytes, counts)
+}
+
+// ---- what is kept
+
+// The newest minute of a channel; or 2, or 11 where nothing is heard of it yet.
+#[unsafe(no_mangle)]
+pub extern "C" fn zhitomrak_newest(store: &Store, channel: u32) -> NewestTold
+    ensures { (result ≡ newest_in (newest_of store.now channel)) × (store.now ≡ store.now) }
+{
+    bridge::zhitomrak_newest(store, channel)
+}
+
+// The reading that is kept of a channel's minute; or 2, 5 or 11.
+#[unsafe(no_mangle)]
+pub extern "C" fn zhitomrak_reading(store: &Store, channel: u32, minute: u32) -> ReadingTold
+    ensures { (result ≡ reading_in (reading_of store.now channel minute)) × (store.now ≡ store.now) }
+{
+    bridge::zhitomrak_reading(store, channel, minute)
+}
+
+// Which minutes of a stretch have a reading: 1, else 0, in a byte for each from the first on. Or 2, and every byte stays.
+#[unsafe(no_mangle)]
+pub extern "C" fn zhitomrak_stretch(
+    store: &Store,
+    channel: u32,
+    first: u32,
+    minutes: &mut [u8],
+) -> u32
+    ensures { Marks store.now channel first minutes.old minutes.new result × (store.now ≡ store.now) }
+{
+    bridge::zhitomrak_stretch(store, channel, first, minutes)
+}
+
+// ---- watch files
+
+// Asks the question of a kind, and puts its answer's record into the lent words; or the question's refusal, or 16, and the words stay.
+#[unsafe(no_mangle)]
+pub extern "C" fn zhitomrak_record_of(
+    store: &Store,
+    kind: u32,
+    minute: u32,
+    words: &mut Words,
+) -> Refusal
+    ensures { RecordedBy kind store.now minute words.old words.new result × (store.now ≡ store.now) }
+{
+    bridge::zhitomrak_record_of(store, kind, minute, words)
+}
+
+// Puts a record in its place in the watch file that the first `size` bytes of the lent buffer are; one of the same minute and kind is
+// replaced. Or 18 with the place where that file is broken, 16 with the index of the record in the new one, or of the 49th, or 17 with
+// the bytes needed, and every byte stays.
+#[unsafe(no_mangle)]
+pub extern "C" fn zhitomrak_place(buffer: &mut [u8], size: usize, words: &Words) -> PlaceTold
+    ensures { (rule : ℕ → ℤ) → DewRule rule → PlacedAs rule size words.now buffer.old buffer.new result }
+{
+    bridge::zhitomrak_place(buffer, size, words)
+}
+
+// Takes the record of a minute and a kind out of that file. Or 18 with the place, or 254 where there is no such record, and every byte
+// stays.
+#[unsafe(no_mangle)]
+pub extern "C" fn zhitomrak_take_out(
+    buffer: &mut [u8],
+    size: usize,
+    kind: u32,
+    minute: u32,
+) -> PlaceTold
+    ensures { (rule : ℕ → ℤ) → DewRule rule → TakenAs rule size kind minute buffer.old buffer.new result }
+{
+    bridge::zhitomrak_take_out(buffer, size, kind, minute)
+}
+
+// ---- what people read: a sentence in the lent bytes, with zeros behind it; its length
+
+// A refusal, by its number and what it also returns, in their order.
+#[unsafe(no_mangle)]
+pub extern "C" fn zhitomrak_say_refusal(
+    number: u32,
+    first: u64,
+    second: u64,
+    text: &mut [u8; SENTENCE],
+) -> usize
+    ensures { Says (refusal_text number first second) text.new result }
+{
+    bridge::zhitomrak_say_refusal(number, first, second, text)
+}
+
+// A pressure, or why there is none.
+#[unsafe(no_mangle)]
+pub extern "C" fn zhitomrak_say_pressure(told: PressureTold, text: &mut [u8; SENTENCE]) -> usize
+    ensures { Says (pressure_said told) text.new result }
+{
+    bridge::zhitomrak_say_pressure(told, text)
+}
+
+// A tendency, or why there is none.
+#[unsafe(no_mangle)]
+pub extern "C" fn zhitomrak_say_tendency(told: TendencyTold, text: &mut [u8; SENTENCE]) -> usize
+    ensures { Says (tendency_said told) text.new result }
+{
+    bridge::zhitomrak_say_tendency(told, text)
+}
+
+// A wind, or why there is none.
+#[unsafe(no_mangle)]
+pub extern "C" fn zhitomrak_say_wind(told: WindTold, text: &mut [u8; SENTENCE]) -> usize
+    ensures { Says (wind_said told) text.new result }
+{
+    bridge::zhitomrak_say_wind(told, text)
+}
+
+// A humidity, or why there is none.
+#[unsafe(no_mangle)]
+pub extern "C" fn zhitomrak_say_humidity(told: HumidityTold, text: &mut [u8; SENTENCE]) -> usize
+    ensures { Says (humidity_said told) text.new result }
+{
+    bridge::zhitomrak_say_humidity(told, text)
+}
+
+// A reading, or why there is none.
+#[unsafe(no_mangle)]
+pub extern "C" fn zhitomrak_say_reading(told: ReadingTold, text: &mut [u8; SENTENCE]) -> usize
+    ensures { Says (reading_said told) text.new result }
+{
+    bridge::zhitomrak_say_reading(told, text)
+}
