@@ -2,10 +2,14 @@
 // and the wet bulb's state, or the refusal. The unit of the barometer is the first argument, hPa or mmHg.
 #![tactic(auto)]
 
-use libc::STDOUT_FILENO;
+ghost use Rattle.std.specs.Prelude.{◌≤◌, length, IfOk};
+
 use message::{Reading, Received};
 use number::Number;
 use quantity::BarometerUnit;
+use std::env::Env;
+use std::io;
+use std::io::Read;
 use wire::MessageRefusal;
 
 // The unit that the first argument names.
@@ -15,114 +19,115 @@ enum Named {
     None,
 }
 
-fn say(text: &[u8]) {
-    io::write_all(STDOUT_FILENO, text);
-}
-
-fn say_natural(n: u32) {
-    io::print_decimal(STDOUT_FILENO, n as u64);
-}
-
-fn say_number(n: Number) {
+fn say_number(rt: &impl Print, n: Number) -> io::Result<()> {
     if n.is_minus() {
-        say(b"-");
+        print!(rt; "-")?;
     }
-    io::print_decimal(STDOUT_FILENO, n.size());
+    print!(rt; "{}", n.size())
 }
 
-fn say_refusal(r: MessageRefusal) {
-    say(b"refused ");
-    say_natural(wire::number(r));
-    say(b"\n");
+fn say_refusal(rt: &impl Print, r: MessageRefusal) -> io::Result<()> {
+    println!(rt; "refused {}", wire::number(r))
 }
 
-fn say_start(channel: u32, minute: u32, first: Number) {
-    say_natural(channel);
-    say(b" ");
-    say_natural(minute);
-    say(b" ");
-    say_number(first);
+fn say_start(rt: &impl Print, channel: u32, minute: u32, first: Number) -> io::Result<()> {
+    print!(rt; "{channel} {minute} ")?;
+    say_number(rt, first)
 }
 
-fn say_one(channel: u32, minute: u32, first: Number) {
-    say_start(channel, minute, first);
-    say(b"\n");
+fn say_one(rt: &impl Print, channel: u32, minute: u32, first: Number) -> io::Result<()> {
+    say_start(rt, channel, minute, first)?;
+    println!(rt)
 }
 
-fn say_two(channel: u32, minute: u32, first: Number, second: u32) {
-    say_start(channel, minute, first);
-    say(b" ");
-    say_natural(second);
-    say(b"\n");
+fn say_two(
+    rt: &impl Print,
+    channel: u32,
+    minute: u32,
+    first: Number,
+    second: u32,
+) -> io::Result<()> {
+    say_start(rt, channel, minute, first)?;
+    println!(rt; " {second}")
 }
 
-fn say_reading(minute: u32, r: Reading) {
+fn say_reading(rt: &impl Print, minute: u32, r: Reading) -> io::Result<()> {
     match r {
-        Reading::Hectopascals(p) => say_one(0, minute, p.0),
+        Reading::Hectopascals(p) => say_one(rt, 0, minute, p.0),
         Reading::Millimetres(p) => {
             let n = p.0;
-            say_one(0, minute, n.number())
+            say_one(rt, 0, minute, n.number())
         }
         Reading::Wheelhouse(t) => {
             let n = t.0;
-            say_one(1, minute, n.number())
+            say_one(rt, 1, minute, n.number())
         }
-        Reading::ApparentWind(v, d) => say_two(2, minute, Number::whole(v.0), d.0),
-        Reading::ShipMotion(v, d) => say_two(3, minute, Number::whole(v.0), d.0),
+        Reading::ApparentWind(v, d) => say_two(rt, 2, minute, Number::whole(v.0), d.0),
+        Reading::ShipMotion(v, d) => say_two(rt, 3, minute, Number::whole(v.0), d.0),
         Reading::DryBulb(t) => {
             let n = t.0;
-            say_one(4, minute, n.number())
+            say_one(rt, 4, minute, n.number())
         }
         Reading::WetBulb(state, t) => {
             let n = t.0;
-            say_two(5, minute, n.number(), state.number())
+            say_two(rt, 5, minute, n.number(), state.number())
         }
     }
+}
+
+// Reads until the bytes are full or the input ends. Returns how many there are.
+fn read_full(input: &mut impl Read, bytes: &mut [u8]) -> io::Result<usize>
+    ensures { IfOk result (λ n. n ≤ length bytes.new) }
+{
+    let mut done = 0;
+    while done < bytes.len() {
+        let n = input.read(&mut bytes[done..])?;
+        if n == 0 {
+            break;
+        }
+        done += n;
+    }
+    Ok(done)
 }
 
 // Reads one message and says what it comes to. Whether there was one.
-fn take_one(unit: BarometerUnit) -> bool {
+fn take_one(rt: &impl Print, input: &mut impl Read, unit: BarometerUnit) -> io::Result<bool> {
     let mut bytes = [0u8; 16];
-    let n = io::read_full(0, &mut bytes);
+    let n = read_full(input, &mut bytes)?;
     if n == 0 {
-        return false;
+        return Ok(false);
     }
     match message::receive(&bytes[..n], unit) {
-        Received::Refused(r) => say_refusal(r),
-        Received::At(minute, r) => say_reading(minute.0, r),
+        Received::Refused(r) => say_refusal(rt, r)?,
+        Received::At(minute, r) => say_reading(rt, minute.0, r)?,
     }
-    true
+    Ok(true)
 }
 
-fn take_all(unit: BarometerUnit) {
+fn take_all(rt: &impl Print, input: &mut impl Read, unit: BarometerUnit) -> io::Result<()> {
     let mut left: u64 = 1000000000;
     while left > 0 {
-        if !take_one(unit) {
-            return;
+        if !take_one(rt, input, unit)? {
+            return Ok(());
         }
         left -= 1;
     }
+    Ok(())
 }
 
-fn named_unit() -> Named {
+fn named_unit(rt: &impl Env) -> Named {
     let mut word = [0u8; 8];
-    let n = os::arg(1, &mut word);
-    if n == 3 {
-        if check::same(&word[..n], b"hPa") {
-            return Named::Unit(BarometerUnit::Hectopascals);
-        }
+    let n = rt.arg(1, &mut word).unwrap_or(0);
+    match &word[..n] {
+        b"hPa" => Named::Unit(BarometerUnit::Hectopascals),
+        b"mmHg" => Named::Unit(BarometerUnit::Millimetres),
+        _ => Named::None,
     }
-    if n == 4 {
-        if check::same(&word[..n], b"mmHg") {
-            return Named::Unit(BarometerUnit::Millimetres);
-        }
-    }
-    Named::None
 }
 
-fn main() {
-    match named_unit() {
-        Named::Unit(unit) => take_all(unit),
-        Named::None => say(b"intake: name the barometer's unit, hPa or mmHg\n"),
+fn main(rt: HostRuntime) -> io::Result<()> {
+    match named_unit(&rt) {
+        Named::Unit(unit) => take_all(&rt, &mut rt.stdin(), unit),
+        Named::None => println!(rt; "intake: name the barometer's unit, hPa or mmHg"),
     }
 }

@@ -1,4 +1,5 @@
 pub mod KeptLaws
+pub mod KindLaws
 pub mod AnswerLaws
 pub mod PressureLaws
 pub mod WindLaws

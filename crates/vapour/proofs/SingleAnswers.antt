@@ -66,16 +66,16 @@ one_telling e t false true p q = absurd (p q.0 q.1)
 one_telling e t false false p q = refl
 
 pub single_saturation : Single saturation.Post
-single_saturation κs a r r' s s' p q = one_saturation _ _ r r' p q
+single_saturation κs a r r' s s' p q = one_saturation a.0.0.v a.1.0.0.v r r' p q
 
 pub single_over_ice : Single over_ice_lem.Post
-single_over_ice κs a r r' s s' p q = one_over_ice _ r r' p q
+single_over_ice κs a r r' s s' p q = one_over_ice a.0.0.v r r' p q
 
 pub single_dew_point : Single dew-point.Post
-single_dew_point κs a r r' s s' p q = one_dew _ r r' p q
+single_dew_point κs a r r' s s' p q = one_dew a.0.0 r r' p q
 
 pub single_is_dew_point : Single is-dew-point.Post
-single_is_dew_point κs a r r' s s' p q = one_telling _ _ r r' p q
+single_is_dew_point κs a r r' s s' p q = one_telling a.0.0 a.1.0.0.v r r' p q
 
 pub single_vapour_pressure : Single vapour-pressure.Post
 single_vapour_pressure κs a r r' s s' p q = p ∙ sym q

@@ -1,7 +1,7 @@
 -- What clearing or setting a bit does to each bit of a word. Both put a digit between the digits above it and those below it
 -- (`put`), and every other bit is read from those alone. Assumes nothing.
 use mathlib.Core.Path.{◌≡◌, refl, sym, ap, ◌∙◌, subst}
-use Prim.Native.Nat.{ℕ, suc, ◌+◌, ◌-◌, ◌*◌, ◌/◌, ◌%◌, ◌^◌, ◌≤◌, ◌<◌}
+use Prim.Native.Nat.{ℕ, zero, suc, ◌+◌, ◌-◌, ◌*◌, ◌/◌, ◌%◌, ◌^◌, ◌≤◌, ◌<◌}
 use native.Mathlib.Nat.{mod-lt, pow-suc, le_refl}
 use native.Mathlib.Numerals.{add-one}
 use native.Mathlib.Omega.{arith}
@@ -159,6 +159,7 @@ over_fits w o k p q ep eq l h f =
     record { even = omega arith; odd = omega arith; high = omega arith; all = whole }
   where
     le_times : (x y : ℕ) → 0 < y → x ≤ x * y
+    le_times x zero g = elim g [ ]
     le_times x (suc y) g = omega arith
 
 -- before what is below o is known

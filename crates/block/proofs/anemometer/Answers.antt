@@ -12,5 +12,5 @@ returns c =
     let s = c.args.store.now in
     let is : RATES + 1 + n - (RATES + 1) ≡ n = omega arith in (
       ap (λ (k : ℕ). take k (drop (RATES + 1) s)) (is ∙ c.rates-n.ensures),
-      simp (length-take, length-drop) (omega (arith, c.s-1.given.0, c.rates-n.ensures)),
+      simp (length-take, length-drop) (omega (arith, c.s-1.given, c.rates-n.ensures)),
     )

@@ -12,5 +12,5 @@ returns c =
     let s = c.args.store.now in
     let is : POINTS + n - POINTS ≡ n = omega arith in (
       ap (λ (k : ℕ). take k (drop POINTS s)) (is ∙ c.points-n.ensures),
-      simp (length-take, length-drop) (omega (arith, c.s-1.given.0, c.points-n.ensures)),
+      simp (length-take, length-drop) (omega (arith, c.s-1.given, c.points-n.ensures)),
     )

@@ -1,7 +1,7 @@
 -- `value_at` meets its contract: the pairs that are left to try answer for the whole. Assumes nothing.
 use mathlib.Core.Path.{◌≡◌, sym, ap, ap₂, subst, ◌∙◌}
 use mathlib.Core.Bool.{Bool, false}
-use mathlib.Core.Logic.{⊎_elim}
+use Rattle.certificate.proofs.value_at.Goals.{then-up_to+else-around, else-up_to}
 use Prim.Native.Nat.{◌+◌, ◌-◌}
 use native.Mathlib.Omega.{arith}
 use lib.IntN.{ℤ}
@@ -31,9 +31,6 @@ loop-i-init c =
 
 pub between-requires : goal.between-requires
 between-requires c =
-    let low = c.before.before in
-    let high = low.before.before.before.before in
-    let loop = high.before.before.before in
     let s = c.args.points.now in (
       subst Stored (sym c.corner_in-p.ensures) (stored c.args.scale (get_or s c.loop-i.i 0) c.ranges.scale.fits),
       subst Stored (sym c.corner_in-q.ensures) (stored c.args.scale (get_or s (c.loop-i.i + 1) 0) c.ranges.scale.fits),
@@ -42,11 +39,8 @@ between-requires c =
 
 pub returns-then-around : goal.returns-then-around
 returns-then-around c =
-    let low = c.before.before.before in
-    let high = low.before.before.before.before in
     let p = c.corner_in-p.ensures in
     let q = c.corner_in-q.ensures in
-    let loop = high.before.before.before in
     let s = c.args.points.now in
     let x = c.args.x.v in
     ap given (c.between.ensures ∙ ap₂ (λ (u v : Corner). between u v x) p q)
@@ -55,13 +49,14 @@ returns-then-around c =
 
 pub loop-i-preserved : goal.loop-i-preserved
 loop-i-preserved c =
-    let high = c.before.before in
     let q = c.corner_in-q.ensures in
-    let loop = high.before.before.before in
     let s = c.args.points.now in
     let x = c.args.x.v in
     let corner = corner_at c.args.scale s in
-    let not_round = ⊎_elim (λ w. said x w.3.ensures w.2.ensures q w.4.left) (λ w. beyond x (corner c.loop-i.i) c.up_to.ensures q w.left) c.if-up_to.branch in (
+    let not_round : stands (corner c.loop-i.i) (corner (c.loop-i.i + 1)) x ≡ false = elim c.if-up_to.branch [
+      then-up_to+else-around w ↦ said x w.around.ensures w.corner_in-p.ensures q w.if-around.false
+      | else-up_to w ↦ beyond x (corner c.loop-i.i) c.up_to.ensures q w.if-up_to.false
+    ] in (
       search rules,
       next corner x c.loop-i.i (length s - 1) (omega arith) not_round ∙ c.loop-i.invariant.1,
     )

@@ -41,7 +41,7 @@ returns-then-fits c =
     let l = c.loop-from in
     let to = c.field_end-to.result in
     let f : fields_at q.forms.now l.from ≡ part q.forms.now l.from to ∷ fields_at q.forms.now (to + 1) = rw c.field_end-to.ensures (fields_here q.forms.now l.from c.loop-from-test.true) in
-    rw (← l.invariant.1, list_here q.word.now f (sym c.?fits2.ensures ∙ c.if-fits.true), ← l.invariant.0) c.lay_fields.ensures
+    rw (← l.invariant.1, list_here q.word.now f (sym c.fits.ensures ∙ c.if-fits.true), ← l.invariant.0) c.lay_fields.ensures
 
 pub overflow_add-from : goal.overflow_add-from
 overflow_add-from c =
@@ -59,7 +59,7 @@ loop-from-preserved c =
     let l = c.loop-from in
     let to = c.field_end-to.result in
     let f : fields_at q.forms.now l.from ≡ part q.forms.now l.from to ∷ fields_at q.forms.now (to + 1) = rw c.field_end-to.ensures (fields_here q.forms.now l.from c.loop-from-test.true) in
-    (l.invariant.0, sym (list_on q.word.now f (sym c.?fits2.ensures ∙ c.if-fits.false)) ∙ l.invariant.1)
+    (l.invariant.0, sym (list_on q.word.now f (sym c.fits.ensures ∙ c.if-fits.false)) ∙ l.invariant.1)
 
 pub shape_of-numbers : goal.shape_of-numbers
 shape_of-numbers c = omega (arith, ap length c.loop-from.invariant.0)

@@ -11,7 +11,7 @@ use Rattle.quantity.specs.declared.BarometerUnit.{BarometerUnit}
 use Rattle.quantity.specs.declared.BarometerUnit.TheVariants.{Hectopascals, Millimetres}
 use Rattle.message.specs.Value.{times_rounded}
 use Rattle.wire.specs.Kinds.{Sound}
-use Rattle.message.specs.Receive.{Figure, °C, kn, wick, none, Entry, pressure}
+use Rattle.message.specs.Receive.{Figure, °C, m/s, kn, wick, none, Entry, pressure}
 use Rattle.message.specs.Work.{capped, one_figure, two_figures}
 use Rattle.message.proofs.Keep.{Small, one_exact, two_exact}
 use Rattle.message.proofs.kept.Goals as goal
@@ -67,7 +67,7 @@ returns-in-Wheelhouse c =
 pub returns-in-ApparentWind : goal.returns-in-ApparentWind
 returns-in-ApparentWind c =
     let start = c.args in
-    rw c.in-ApparentWind.is (two limits.metres_per_second (lit< tt, lit< tt) 2 start.minute.0 c.m-in-ApparentWind-1.given/s c.in-ApparentWind.p.speed c.in-ApparentWind.p.angle c.apparent_wind.ensures c.tenths-in-ApparentWind.ensures c.degrees.ensures)
+    rw c.in-ApparentWind.is (two limits.metres_per_second (lit< tt, lit< tt) 2 start.minute.0 m/s c.in-ApparentWind.p.speed c.in-ApparentWind.p.angle c.apparent_wind.ensures c.tenths-in-ApparentWind.ensures c.degrees.ensures)
 
 pub returns-in-ShipMotion : goal.returns-in-ShipMotion
 returns-in-ShipMotion c =

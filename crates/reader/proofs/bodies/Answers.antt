@@ -18,19 +18,16 @@ use Rattle.reader.specs.Work.{found}
 use Rattle.reader.specs.declared.BodyTested.{BodyTested}
 use Rattle.reader.proofs.ContentsLaws.{part, length_part}
 use Rattle.reader.proofs.BodiesLaws.{kind_at, kind_is, row_right, BodyAt, body_stop, body_on, end_extra, end_none, length_records}
+use Rattle.reader.proofs.bodies.Invariants.{left}
 use Rattle.reader.proofs.bodies.Goals as goal
 use Rattle.reader.proofs.bodies.Goals.{After-get16-at, After-size_of, In-Wrong}
-
--- what the bodies come to from one on: all records, or a place
-abbrev left : List ℕ → ℕ → (ℕ → ℤ) → ℕ → ℕ → ℕ → Answer ℕ (List Record)
-left s count rule n row at = found s (bodies_fields rule s n row at) (records_from s count 4 (start_of count))
 
 at-end : (rule : ℕ → ℤ) (s : List ℕ) (row at end : ℕ) (q : BodyTested) → at ≡ end → BodyAt rule (part s at) (get_or (part s row) 0 0) q → BodyAt rule (part s end) (kind_at s row) q
 at-end rule s row at end q e h =
     subst (λ (x : ℕ). BodyAt rule (part s x) (kind_at s row) q) e (subst (λ (k : ℕ). BodyAt rule (part s at) k q) (kind_is s row) h)
 
 -- the offset that the file has of the body is where the body before it ended
-offset : (c : After-get16-at invariant-loop decreases-loop) → c.get16-at.result ≡ c.loop-i.end
+offset : (c : After-get16-at) → c.get16-at.result ≡ c.loop-i.end
 offset c =
     let l = c.loop-i in
     let q = c.args in
@@ -38,35 +35,33 @@ offset c =
     ∙ (row_right (length q.file.now) q.file.now (q.count - l.i) (q.count - (l.i + 1)) l.row l.end l.invariant.3.0 (omega arith) l.invariant.3.1).0
 
 -- where a body is broken, so is the file
-stop : (c : In-Wrong invariant-loop decreases-loop) (rule : ℕ → ℤ) → DewRule rule →
+stop : (c : In-Wrong) → c.get16-at.result ≡ c.loop-i.end → (rule : ℕ → ℤ) → DewRule rule →
     let l = c.loop-i in
     let q = c.args in
     let place = c.get16-at.result + c.in-Wrong.k in
     (left q.file.now q.count rule (q.count - l.i) l.row l.end ≡ refused place) × (place ≤ length q.file.now)
-stop c rule ruled =
+stop c o rule ruled =
     let l = c.loop-i in
     let q = c.args in
     let s = q.file.now in
     let at = c.get16-at.result in
-    let o : at ≡ l.end = offset c.before.before.before.before.before in
     rw o (body_stop rule s (records_from s q.count 4 (start_of q.count)) (q.count - l.i) (q.count - (l.i + 1)) l.row l.end (omega arith) l.invariant.2 c.test_body.result
     c.in-Wrong.k (at-end rule s l.row at l.end c.test_body.result o (c.test_body.ensures rule ruled)) c.in-Wrong.is)
 
 -- where it is right, the bodies behind it answer for it
-on : (c : After-size_of invariant-loop decreases-loop) (rule : ℕ → ℤ) → DewRule rule →
+on : (c : After-size_of) → c.get16-at.result ≡ c.loop-i.end → (rule : ℕ → ℤ) → DewRule rule →
     let l = c.loop-i in
     let q = c.args in
     let s = q.file.now in
     let end = l.end + size_of (kind_at s l.row) in
     (left s q.count rule (q.count - l.i) l.row l.end ≡ left s q.count rule (q.count - (l.i + 1)) (l.row + 8) end)
     × (end ≤ length s)
-on c rule ruled =
+on c o rule ruled =
     let l = c.loop-i in
     let q = c.args in
     let s = q.file.now in
-    let head = c.before.before.before.before.before in
     body_on rule s (records_from s q.count 4 (start_of q.count)) (q.count - l.i) (q.count - (l.i + 1)) l.row l.end (omega arith) l.invariant.2 c.test_body.result
-    (at-end rule s l.row c.get16-at.result l.end c.test_body.result (offset head) (c.test_body.ensures rule ruled)) c.in-Right.is
+    (at-end rule s l.row c.get16-at.result l.end c.test_body.result o (c.test_body.ensures rule ruled)) c.in-Right.is
 
 pub loop-i-init : goal.loop-i-init
 loop-i-init c =
@@ -98,13 +93,13 @@ pub enum_known-k : goal.enum_known-k
 enum_known-k c = c.in-Wrong.in-Wrong-own.keys2
 
 pub overflow_add-place : goal.overflow_add-place
-overflow_add-place c = let t = stop (goal.at.overflow_add-place c).In-Wrong the_rule.0 the_rule.1 in omega arith
+overflow_add-place c = let t = stop (goal.at.overflow_add-place c).In-Wrong (offset (goal.at.overflow_add-place c).After-get16-at) the_rule.0 the_rule.1 in omega arith
 
 pub returns-in-Wrong : goal.returns-in-Wrong
 returns-in-Wrong c =
     λ rule ruled.
     let l = c.loop-i in
-    ap counted (sym (l.invariant.4 rule ruled ∙ (stop (goal.at.returns-in-Wrong c).In-Wrong rule ruled).0))
+    ap counted (sym (l.invariant.4 rule ruled ∙ (stop (goal.at.returns-in-Wrong c).In-Wrong (offset (goal.at.returns-in-Wrong c).After-get16-at) rule ruled).0))
 
 pub overflow_add-end-in-loop-i : goal.overflow_add-end-in-loop-i
 overflow_add-end-in-loop-i c =
@@ -124,14 +119,14 @@ loop-i-preserved c =
     let head = (goal.at.loop-i-preserved c).After-get16-at in
     let at = c.get16-at.result in
     let o : at ≡ l.end = offset head in
-    let z : c.?type_size.result ≡ size_of (kind_at s l.row) = c.?type_size.ensures ∙ ap size_of (kind_is s l.row) in
-    let t = on (goal.at.loop-i-preserved c).After-size_of the_rule.0 the_rule.1 in
+    let z : c.size_of.result ≡ size_of (kind_at s l.row) = c.size_of.ensures ∙ ap size_of (kind_is s l.row) in
+    let t = on (goal.at.loop-i-preserved c).After-size_of o the_rule.0 the_rule.1 in
     let behind = (row_right (length s) s n m l.row l.end l.invariant.3.0 some l.invariant.3.1).1 in (
       omega arith,
       omega arith,
       omega (arith, t.1),
       (rank (le32 (drop l.row s) 4) (kind_at s l.row), rw (z, o) behind),
-      λ rule ruled. l.invariant.4 rule ruled ∙ (on (goal.at.loop-i-preserved c).After-size_of rule ruled).0 ∙ rw (z, o),
+      λ rule ruled. l.invariant.4 rule ruled ∙ (on (goal.at.loop-i-preserved c).After-size_of o rule ruled).0 ∙ rw (z, o),
     )
 
 pub returns-then-end-file : goal.returns-then-end-file

@@ -12,7 +12,7 @@ use Rattle.reader.proofs.contents.Goals as goal
 use Rattle.reader.proofs.contents.Goals.{In-Broken}
 
 -- where a row is broken, so are the contents
-stop : (c : In-Broken invariant-loop decreases-loop) →
+stop : (c : In-Broken) →
     let l = c.loop-i in
     let q = c.args in
     let place = l.at + c.in-Broken.k in
@@ -48,7 +48,7 @@ loop-i-preserved c =
     let l = c.loop-i in
     let q = c.args in
     let t = row_on q.file.now q.count (q.count - l.i) (q.count - (l.i + 1)) l.at l.next l.before (omega arith) l.invariant.2 c.read_row.result c.in-Good.row c.read_row.ensures c.in-Good.is in
-    (omega arith, omega arith, t.1, omega (arith, size_most c.in-Good.row.kind), l.invariant.4 ∙ t.0 ∙ rw (c.?type_size.ensures, c.rank-before.ensures))
+    (omega arith, omega arith, t.1, omega (arith, size_most c.in-Good.row.kind), l.invariant.4 ∙ t.0 ∙ rw (c.size_of-next.ensures, c.rank-before.ensures))
 
 pub returns : goal.returns
 returns c =

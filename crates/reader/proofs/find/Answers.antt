@@ -46,13 +46,12 @@ returns-then-file-at c =
     let q = c.args in
     body_cut q.file.now q.i c.if-i-file.false c.if-file-row.false
     (sym c.kind_right.ensures ∙ not-false _ c.if-not-kind_right.false-raw)
-    (omega (arith, c.if-file-at.true, c.?type_size.ensures, c.get16-at.ensures))
+    (omega (arith, c.if-file-at.true, c.size_of.ensures, c.get16-at.ensures))
 
 pub returns : goal.returns
 returns c =
     let q = c.args in
-    let end = c.before.before in
     rw (c.get32-minute.ensures, c.get16-at.ensures)
     (there q.file.now q.i c.if-i-file.false c.if-file-row.false
     (sym c.kind_right.ensures ∙ not-false _ c.if-not-kind_right.false-raw)
-    (omega (arith, c.if-file-at.false, c.?type_size.ensures, c.get16-at.ensures)))
+    (omega (arith, c.if-file-at.false, c.size_of.ensures, c.get16-at.ensures)))

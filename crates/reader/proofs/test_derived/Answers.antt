@@ -1,5 +1,6 @@
 -- `test_derived` meets its contract: the deficit, the relative humidity, then the dew point. Assumes nothing.
 use mathlib.Core.Path.{◌≡◌, sym, ap, ◌∙◌}
+use mathlib.Core.List.{List}
 use lib.IntN.{ℤ}
 use lib.ListN.{drop, get_or}
 use Prim.Native.Nat.{ℕ}
@@ -12,35 +13,31 @@ use Rattle.watchfile.proofs.FieldLaws.{cut, wrong, right, none}
 use Rattle.reader.specs.Work.{found}
 use borrow.Author.Rules.{rules}
 use Rattle.reader.proofs.test_derived.Goals as goal
-use Rattle.reader.proofs.test_derived.Goals.{After-deficit_right, After-dew_right, After-relative_right, After-signed-dew, Else-not-deficit_right, Else-not-relative_right, Start}
+use Rattle.reader.proofs.test_derived.Goals.{After-deficit_right, After-dew_right, After-relative_right, Else-not-deficit_right, Else-not-relative_right}
 
-abbrev from : Start → (ℕ → ℤ) → ℕ → Answer ℕ (Unit {0})
-from q rule k = let s = q.args.s.now in found s (drop k (humidity_fields rule s)) tt
+abbrev from : List ℕ → (ℕ → ℤ) → ℕ → Answer ℕ (Unit {0})
+from s rule k = found s (drop k (humidity_fields rule s)) tt
 
 -- the three rules, as the bytes have them
-deficit-rule : (c : After-deficit_right) → let s = c.args.s.now in c.deficit_right.result ≡ deficit_right (le16 s 0) (le16 s 2) (le16 s 4)
-deficit-rule c =
+deficit_rule : (c : After-deficit_right) → let s = c.args.s.now in c.deficit_right.result ≡ deficit_right (le16 s 0) (le16 s 2) (le16 s 4)
+deficit_rule c =
     rw (c.requires.1, c.requires.2, c.get16-deficit.ensures) at c.deficit_right.ensures
 
-relative-rule : (c : After-relative_right) → let s = c.args.s.now in c.relative_right.result ≡ relative_right (le16 s 0) (le16 s 2) (get_or s 6 0)
-relative-rule c =
+relative_rule : (c : After-relative_right) → let s = c.args.s.now in c.relative_right.result ≡ relative_right (le16 s 0) (le16 s 2) (get_or s 6 0)
+relative_rule c =
     rw (c.requires.1, c.requires.2) at c.relative_right.ensures
 
-dew : (c : After-signed-dew) → c.signed-dew.result.v ≡ signed16 (le16 c.args.s.now 7)
-dew c = c.signed-dew.ensures ∙ ap signed16 c.get16.ensures
+dew_rule : (c : After-dew_right) (rule : ℕ → ℤ) → DewRule rule → let s = c.args.s.now in c.dew_right.result ≡ dew_right rule (le16 s 0) (signed16 (le16 s 7))
+dew_rule c rule ruled =
+    rw (c.requires.1, c.signed-dew.ensures ∙ ap signed16 c.get16.ensures) at (c.dew_right.ensures rule ruled)
 
-dew-rule : (c : After-dew_right) (rule : ℕ → ℤ) → DewRule rule → let s = c.args.s.now in c.dew_right.result ≡ dew_right rule (le16 s 0) (signed16 (le16 s 7))
-dew-rule c rule ruled =
-    rw (c.requires.1, dew c.before) at (c.dew_right.ensures rule ruled)
+past_deficit : (c : Else-not-deficit_right) (rule : ℕ → ℤ) → let s = c.args.s.now in from s rule 2 ≡ from s rule 3
+past_deficit c rule =
+    right _ _ _ _ c.if-s-lt6.false (sym (rw (c.requires.1, c.requires.2, c.get16-deficit.ensures) at c.deficit_right.ensures) ∙ not-false _ c.if-not-deficit_right.false-raw)
 
-past-deficit : (c : Else-not-deficit_right) (rule : ℕ → ℤ) → let q = c.before.before.before.before.before in from q rule 2 ≡ from q rule 3
-past-deficit c rule =
-    right _ _ _ _ c.if-s-lt6.false (sym (deficit-rule c.before) ∙ not-false _ c.if-not-deficit_right.false-raw)
-
-past-relative : (c : Else-not-relative_right) (rule : ℕ → ℤ) → let q = c.before.before.before.before.before.before.before.before.before in from q rule 2 ≡ from q rule 4
-past-relative c rule =
-    past-deficit c.before.before.before.before rule
-    ∙ right _ _ _ _ c.if-s-lt7.false (sym (relative-rule c.before) ∙ not-false _ c.if-not-relative_right.false-raw)
+past_relative : (c : Else-not-relative_right) (rule : ℕ → ℤ) → let s = c.args.s.now in from s rule 3 ≡ from s rule 4
+past_relative c rule =
+    right _ _ _ _ c.if-s-lt7.false (sym (rw (c.requires.1, c.requires.2) at c.relative_right.ensures) ∙ not-false _ c.if-not-relative_right.false-raw)
 
 pub returns-then-s-lt6 : goal.returns-then-s-lt6
 returns-then-s-lt6 c = λ rule ruled. sym (cut _ _ _ _ c.if-s-lt6.true)
@@ -48,30 +45,31 @@ returns-then-s-lt6 c = λ rule ruled. sym (cut _ _ _ _ c.if-s-lt6.true)
 pub returns-then-not-deficit_right : goal.returns-then-not-deficit_right
 returns-then-not-deficit_right c =
     λ rule ruled.
-    sym (wrong _ _ _ _ c.if-s-lt6.false (sym (deficit-rule (goal.at.returns-then-not-deficit_right c).After-deficit_right) ∙ not-true _ c.if-not-deficit_right.true-raw))
+    sym (wrong _ _ _ _ c.if-s-lt6.false (sym (deficit_rule (goal.at.returns-then-not-deficit_right c).After-deficit_right) ∙ not-true _ c.if-not-deficit_right.true-raw))
 
 pub returns-then-s-lt7 : goal.returns-then-s-lt7
-returns-then-s-lt7 c = λ rule ruled. sym (past-deficit (goal.at.returns-then-s-lt7 c).Else-not-deficit_right rule ∙ cut _ _ _ _ c.if-s-lt7.true)
+returns-then-s-lt7 c = λ rule ruled. sym (past_deficit (goal.at.returns-then-s-lt7 c).Else-not-deficit_right rule ∙ cut _ _ _ _ c.if-s-lt7.true)
 
 pub returns-then-not-relative_right : goal.returns-then-not-relative_right
 returns-then-not-relative_right c =
     λ rule ruled.
-    sym (past-deficit (goal.at.returns-then-not-relative_right c).Else-not-deficit_right rule
-    ∙ wrong _ _ _ _ c.if-s-lt7.false (sym (relative-rule (goal.at.returns-then-not-relative_right c).After-relative_right) ∙ not-true _ c.if-not-relative_right.true-raw))
+    sym (past_deficit (goal.at.returns-then-not-relative_right c).Else-not-deficit_right rule
+    ∙ wrong _ _ _ _ c.if-s-lt7.false (sym (relative_rule (goal.at.returns-then-not-relative_right c).After-relative_right) ∙ not-true _ c.if-not-relative_right.true-raw))
 
 pub returns-then-s-lt9 : goal.returns-then-s-lt9
-returns-then-s-lt9 c = λ rule ruled. sym (past-relative (goal.at.returns-then-s-lt9 c).Else-not-relative_right rule ∙ cut _ _ _ _ c.if-s-lt9.true)
+returns-then-s-lt9 c = λ rule ruled. sym (past_deficit (goal.at.returns-then-s-lt9 c).Else-not-deficit_right rule ∙ past_relative (goal.at.returns-then-s-lt9 c).Else-not-relative_right rule ∙ cut _ _ _ _ c.if-s-lt9.true)
 
 pub returns-then-dew_right : goal.returns-then-dew_right
 returns-then-dew_right c =
     λ rule ruled.
-    let at = (goal.at.returns-then-dew_right c).Else-not-relative_right in
-    sym (past-relative at rule
-    ∙ right _ _ _ _ c.if-s-lt9.false (sym (dew-rule (goal.at.returns-then-dew_right c).After-dew_right rule ruled) ∙ c.if-dew_right.true)
+    sym (past_deficit (goal.at.returns-then-dew_right c).Else-not-deficit_right rule
+    ∙ past_relative (goal.at.returns-then-dew_right c).Else-not-relative_right rule
+    ∙ right _ _ _ _ c.if-s-lt9.false (sym (dew_rule (goal.at.returns-then-dew_right c).After-dew_right rule ruled) ∙ c.if-dew_right.true)
     ∙ none _ _)
 
 pub returns : goal.returns
 returns c =
     λ rule ruled.
-    sym (past-relative (goal.at.returns c).Else-not-relative_right rule
-    ∙ wrong _ _ _ _ c.if-s-lt9.false (sym (dew-rule (goal.at.returns c).After-dew_right rule ruled) ∙ c.if-dew_right.false))
+    sym (past_deficit (goal.at.returns c).Else-not-deficit_right rule
+    ∙ past_relative (goal.at.returns c).Else-not-relative_right rule
+    ∙ wrong _ _ _ _ c.if-s-lt9.false (sym (dew_rule (goal.at.returns c).After-dew_right rule ruled) ∙ c.if-dew_right.false))

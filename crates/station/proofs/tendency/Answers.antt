@@ -1,102 +1,63 @@
 -- `tendency` meets its contract: the store, the minute, then sea level pressure at both minutes, test by test. Assumes nothing.
 use mathlib.Core.Path.{◌≡◌, refl, ap, subst, ◌∙◌}
-use mathlib.Core.Bool.{false}
-use mathlib.Core.List.{List, ◌∷◌}
-use Prim.Native.Nat.{ℕ, ◌-◌}
+use mathlib.Core.Bool.{Bool, false, not}
+use mathlib.Core.List.{List, [], ◌∷◌}
+use mathlib.Core.Logic.{inl, inr}
+use Prim.Native.Nat.{ℕ, ◌-◌, ◌≤◌}
 use native.Mathlib.Omega.{arith}
+use types.Run.{OneOf}
+use denote.Enum.Declared.{tag_of}
+use lib.Dec.{leb}
 use lib.IntN.{nat_abs}
 use borrow.Author.Tests.{lt-ltb, le-ltb}
 use Rattle.number.specs.Refusal.{Numbered, Test, Answer}
-use Rattle.quantity.specs.Limits.{three_hours}
+use Rattle.quantity.specs.Limits.{last_minute, three_hours}
+use Rattle.quantity.specs.declared.Hectopascals.{Hectopascals}
+use Rattle.block.specs.Words.{is_store}
 use Rattle.pressure.specs.Pressure.{outside}
 use Rattle.station.specs.Source.{Source, held, reading_at}
 use Rattle.store.specs.Block.{no_store}
 use Rattle.station.specs.Questions.{Answers, too_late, no_three_hours, missing_at, sea_level_at, TendencyRule, PressureRule}
 use Rattle.station.specs.Told.{Change}
 use Rattle.station.specs.Parts.{TellsAt}
+use Rattle.station.specs.declared.AtMinute.{AtMinute}
+use Rattle.station.specs.declared.AtMinute.TheVariants.{NotKept, Outside, SeaLevel}
+use Rattle.station.specs.contracts.AtMinute.{the_type}
 use Rattle.station.proofs.AnswerLaws.{no_store_lem, too_late_lem, both_pass, pass, stop, end}
 use Rattle.station.proofs.PressureLaws.{There, at_missing, at_given, at_there, at_no_pressure, pass_there, at_size, less}
 use Rattle.station.proofs.tendency.Goals as goal
-use Rattle.station.proofs.tendency.Goals.{After-sea_level_at-later, Else-minute-lt-THREE_HOURS, In-SeaLevel, In-SeaLevel-later, In_default-later}
-
--- what is asked, of which block
-words : (c : Else-minute-lt-THREE_HOURS) → List ℕ
-words c = c.args.store.now
-
-minute : (c : Else-minute-lt-THREE_HOURS) → ℕ
-minute c = c.args.minute
 
 -- it is a store, and the minute is early enough and late enough
-front : (c : Else-minute-lt-THREE_HOURS) (rest : List (Test Numbered)) (a : Answer Numbered Change)
-    → Answers rest (TendencyRule (held (words c)) (minute c)) a
-    → Answers (no_store (words c) ∷ too_late (minute c) ∷ no_three_hours (minute c) ∷ rest) (TendencyRule (held (words c)) (minute c)) a
-unfolding words minute
-front c rest a w =
-    let two = c.before in
-    both_pass c.args.store.now c.args.minute (TendencyRule (held c.args.store.now) c.args.minute) _
-    c.is_store.ensures c.holds.ensures c.if-not-is_store.false-raw c.if-not-holds.false-raw a
-    (pass _ _ _ _ (le-ltb c.args.minute three_hours c.if-minute-lt-THREE_HOURS.false) w)
+front : (s : List ℕ) (m : ℕ) {marked timed : Bool} → marked ≡ is_store s → timed ≡ leb m last_minute → not marked ≡ false → not timed ≡ false → three_hours ≤ m
+    → (rest : List (Test Numbered)) (a : Answer Numbered Change)
+    → Answers rest (TendencyRule (held s) m) a
+    → Answers (no_store s ∷ too_late m ∷ no_three_hours m ∷ rest) (TendencyRule (held s) m) a
+front s m is e h k late rest a w =
+    both_pass s m (TendencyRule (held s) m) _ is e h k a (pass _ _ _ _ (le-ltb m three_hours late) w)
 
--- sea level pressure at both minutes, as it was found
-module _ (c : After-sea_level_at-later) where
-  abbrev S : Source
-  S = held (words c.before.before)
+-- nothing is missing, so the certificate decides, the earlier minute first
+certified : (S : Source) (m : ℕ) → There S (m - three_hours) → There S m → (rest : List (Test Numbered)) (a : Answer Numbered Change)
+    → Answers rest (TendencyRule S m) a
+    → Answers
+    (missing_at S (m - three_hours) 0 ∷ missing_at S (m - three_hours) 1 ∷ missing_at S m 0 ∷ missing_at S m 1 ∷ rest)
+    (TendencyRule S m) a
+certified S m earlier later rest a w = pass_there S (m - three_hours) _ _ _ earlier (pass_there S m _ _ _ later w)
 
-  abbrev m : ℕ
-  m = minute c.before.before
+-- what is not missing, and what is no pressure, by its case
+not_missing : (r : AtMinute) → ((c : ℕ) → r ≡ NotKept c → ⊥) → OneOf (1 ∷ 2 ∷ []) (tag_of the_type r)
+not_missing (NotKept c) f = absurd (f c refl)
+not_missing Outside f = inl refl
+not_missing (SeaLevel p) f = inr refl
 
-  earlier-is : TellsAt S (m - three_hours) c.sea_level_at-earlier.result
-  unfolding words minute
-  earlier-is = c.sea_level_at-earlier.ensures
+no_pressure : (r : AtMinute) → ((p : Hectopascals) → r ≡ SeaLevel p → ⊥) → OneOf (0 ∷ 1 ∷ []) (tag_of the_type r)
+no_pressure (NotKept c) f = inl refl
+no_pressure Outside f = inr refl
+no_pressure (SeaLevel p) f = absurd (f p refl)
 
-  later-is : TellsAt S m c.sea_level_at-later.result
-  unfolding words minute
-  later-is = c.sea_level_at-later.ensures
-
--- nothing is missing
-module _ (c : In_default-later) where
-  abbrev at : After-sea_level_at-later
-  at = c.before.before
-
-  earlier-there : There (S at) (m at - three_hours)
-  earlier-there = at_there (S at) (m at - three_hours) at.sea_level_at-earlier.result c.in_default.in_default-own.keys2 (earlier-is at)
-
-  later-there : There (S at) (m at)
-  later-there = at_there (S at) (m at) at.sea_level_at-later.result c.in_default-later.in_default-later-own.keys2 (later-is at)
-
-  -- so the certificate decides, the earlier minute first
-  certified : (rest : List (Test Numbered)) (a : Answer Numbered Change)
-      → Answers rest (TendencyRule (S at) (m at)) a
-      → Answers
-      (no_store (words at.before.before) ∷ too_late (m at) ∷ no_three_hours (m at)
-      ∷ missing_at (S at) (m at - three_hours) 0 ∷ missing_at (S at) (m at - three_hours) 1
-      ∷ missing_at (S at) (m at) 0 ∷ missing_at (S at) (m at) 1 ∷ rest)
-      (TendencyRule (S at) (m at)) a
-  certified rest a w =
-      front at.before.before _ _ (pass_there (S at) (m at - three_hours) _ _ _ earlier-there (pass_there (S at) (m at) _ _ _ later-there w))
-
--- the earlier pressure is given, and the later
-module _ (c : In-SeaLevel) where
-  abbrev found : In_default-later
-  found = c.before.before.before
-
-  earlier-given : 
-      There (S (at found)) (m (at found) - three_hours)
-      × (outside (S (at found)).barometer (reading_at (S (at found)) (m (at found) - three_hours)) ≡ false)
-      × (c.in-SeaLevel.p.0.v ≡ sea_level_at (S (at found)) (m (at found) - three_hours))
-  earlier-given =
-      let c.earlier-in-SeaLevel-1.given = c.earlier-in-SeaLevel-1.given in
-      at_given (S (at found)) (m (at found) - three_hours) (PressureRule (S (at found)) (m (at found) - three_hours)) c.in-SeaLevel.p.0.v
-      (subst (TellsAt (S (at found)) (m (at found) - three_hours)) c.in-SeaLevel.is (earlier-is (at found)))
-
-later-given : (c : In-SeaLevel-later) → let both = at (found c.before.before.before) in 
-    There (S both) (m both)
-    × (outside (S both).barometer (reading_at (S both) (m both)) ≡ false)
-    × (c.in-SeaLevel-later.q.0.v ≡ sea_level_at (S both) (m both))
-later-given c =
-    let both = at (found c.before.before.before) in
-    let c.later-in-SeaLevel-later-2-1.given = c.later-in-SeaLevel-later-2-1.given in
-    at_given (S both) (m both) (PressureRule (S both) (m both)) c.in-SeaLevel-later.q.0.v (subst (TellsAt (S both) (m both)) c.in-SeaLevel-later.is (later-is both))
+-- a pressure that is given
+is_given : (S : Source) (m : ℕ) {r : AtMinute} {p : Hectopascals} → TellsAt S m r → r ≡ SeaLevel p
+    → There S m × (outside S.barometer (reading_at S m) ≡ false) × (p.0.v ≡ sea_level_at S m)
+is_given S m {p = p} told e = at_given S m (PressureRule S m) p.0.v (subst (TellsAt S m) e told)
 
 pub returns-then-not-is_store : goal.returns-then-not-is_store
 returns-then-not-is_store c = let a = c.args in (λ table tabled. no_store_lem a.store.now a.minute _ _ c.is_store.ensures c.if-not-is_store.true-raw, refl)
@@ -109,7 +70,6 @@ returns-then-not-holds c =
 pub returns-then-minute-lt-THREE_HOURS : goal.returns-then-minute-lt-THREE_HOURS
 returns-then-minute-lt-THREE_HOURS c = (
   λ table tabled.
-      let two = c.before in
       let a = c.args in
       both_pass a.store.now a.minute _ _ c.is_store.ensures c.holds.ensures c.if-not-is_store.false-raw c.if-not-holds.false-raw _
       (stop _ _ _ (lt-ltb a.minute three_hours c.if-minute-lt-THREE_HOURS.true)),
@@ -117,68 +77,78 @@ returns-then-minute-lt-THREE_HOURS c = (
 )
 
 pub returns-in-NotKept : goal.returns-in-NotKept
-unfolding words minute
 returns-in-NotKept c = (
   λ table tabled.
-      let at = (goal.at.returns-in-NotKept c).After-sea_level_at-later in
-      front (goal.at.returns-in-NotKept c).Else-minute-lt-THREE_HOURS _ _
-      (at_missing (S at) (m at - three_hours) (TendencyRule (S at) (m at)) _ _ (subst (TellsAt (S at) (m at - three_hours)) c.in-NotKept.is (earlier-is at))),
+      let s = c.args.store.now in
+      let S = held s in
+      let m = c.args.minute in
+      front s m c.is_store.ensures c.holds.ensures c.if-not-is_store.false-raw c.if-not-holds.false-raw c.if-minute-lt-THREE_HOURS.false _ _
+      (at_missing S (m - three_hours) (TendencyRule S m) _ _ (subst (TellsAt S (m - three_hours)) c.in-NotKept.is c.sea_level_at-earlier.ensures)),
   refl,
 )
 
 pub returns-in-NotKept-later : goal.returns-in-NotKept-later
-unfolding words minute
 returns-in-NotKept-later c = (
   λ table tabled.
-      let at = (goal.at.returns-in-NotKept-later c).After-sea_level_at-later in
-      let there = at_there (S at) (m at - three_hours) c.sea_level_at-earlier.result c.in_default.in_default-own.keys2 (earlier-is at) in
-      front (goal.at.returns-in-NotKept-later c).Else-minute-lt-THREE_HOURS _ _
-      (pass_there (S at) (m at - three_hours) _ _ _ there
-      (at_missing (S at) (m at) (TendencyRule (S at) (m at)) _ _ (subst (TellsAt (S at) (m at)) c.in-NotKept-later.is (later-is at)))),
+      let s = c.args.store.now in
+      let S = held s in
+      let m = c.args.minute in
+      let there = at_there S (m - three_hours) c.sea_level_at-earlier.result (not_missing c.sea_level_at-earlier.result c.in_default.not-NotKept) c.sea_level_at-earlier.ensures in
+      front s m c.is_store.ensures c.holds.ensures c.if-not-is_store.false-raw c.if-not-holds.false-raw c.if-minute-lt-THREE_HOURS.false _ _
+      (pass_there S (m - three_hours) _ _ _ there
+      (at_missing S m (TendencyRule S m) _ _ (subst (TellsAt S m) c.in-NotKept-later.is c.sea_level_at-later.ensures))),
   refl,
 )
 
 pub returns-in_default-earlier : goal.returns-in_default-earlier
-unfolding words minute
 returns-in_default-earlier c = (
   λ table tabled.
-      let both = at (goal.at.returns-in_default-earlier c).In_default-later in
-      certified (goal.at.returns-in_default-earlier c).In_default-later _ _
-      (stop _ _ _ (at_no_pressure (S both) (m both - three_hours) both.before.sea-level-at.result c.in_default.in_default-own.keys2 c.in_default-earlier.in_default-earlier-own.keys2 (earlier-is both))),
+      let s = c.args.store.now in
+      let S = held s in
+      let m = c.args.minute in
+      let earlier = not_missing c.sea_level_at-earlier.result c.in_default.not-NotKept in
+      let later = not_missing c.sea_level_at-later.result c.in_default-later.not-NotKept in
+      front s m c.is_store.ensures c.holds.ensures c.if-not-is_store.false-raw c.if-not-holds.false-raw c.if-minute-lt-THREE_HOURS.false _ _
+      (certified S m (at_there S (m - three_hours) c.sea_level_at-earlier.result earlier c.sea_level_at-earlier.ensures) (at_there S m c.sea_level_at-later.result later c.sea_level_at-later.ensures) _ _
+      (stop _ _ _ (at_no_pressure S (m - three_hours) c.sea_level_at-earlier.result earlier (no_pressure c.sea_level_at-earlier.result c.in_default-earlier.not-SeaLevel) c.sea_level_at-earlier.ensures))),
   refl,
 )
 
 pub returns-in_default-later-2 : goal.returns-in_default-later-2
-unfolding words minute
 returns-in_default-later-2 c = (
   λ table tabled.
-      let there = found (goal.at.returns-in_default-later-2 c).In-SeaLevel in
-      let both = at there in
-      certified there _ _
-      (pass _ _ _ _ (earlier-given (goal.at.returns-in_default-later-2 c).In-SeaLevel).1
-      (stop _ _ _ (at_no_pressure (S both) (m both) both.sea-level-at2.result there.match2.keys2 c.in_default-later-2.in_default-later-2-own.keys2 (later-is both)))),
+      let s = c.args.store.now in
+      let S = held s in
+      let m = c.args.minute in
+      let p = is_given S (m - three_hours) c.sea_level_at-earlier.ensures c.in-SeaLevel.is in
+      let later = not_missing c.sea_level_at-later.result c.in_default-later.not-NotKept in
+      front s m c.is_store.ensures c.holds.ensures c.if-not-is_store.false-raw c.if-not-holds.false-raw c.if-minute-lt-THREE_HOURS.false _ _
+      (certified S m p.0 (at_there S m c.sea_level_at-later.result later c.sea_level_at-later.ensures) _ _
+      (pass _ _ _ _ p.1
+      (stop _ _ _ (at_no_pressure S m c.sea_level_at-later.result later (no_pressure c.sea_level_at-later.result c.in_default-later-2.not-SeaLevel) c.sea_level_at-later.ensures)))),
   refl,
 )
 
 pub minus-requires : goal.minus-requires
-unfolding words minute
 minus-requires c =
-    let told = (goal.at.minus-requires c).In-SeaLevel-later in
-    let start = (at (found (goal.at.minus-requires c).In-SeaLevel))before.before.before.before.before.before.before in
-    let s = start.args.store.now in
-    let p = earlier-given (goal.at.minus-requires c).In-SeaLevel in
-    let q = later-given told in
-    omega (arith, ap nat_abs p.2, ap nat_abs q.2, at_size s (start.args.minute - three_hours) p.0, at_size s start.args.minute q.0)
+    let s = c.args.store.now in
+    let S = held s in
+    let m = c.args.minute in
+    let p = is_given S (m - three_hours) c.sea_level_at-earlier.ensures c.in-SeaLevel.is in
+    let q = is_given S m c.sea_level_at-later.ensures c.in-SeaLevel-later.is in
+    omega (arith, ap nat_abs p.2, ap nat_abs q.2, at_size s (m - three_hours) p.0, at_size s m q.0)
 
 pub returns : goal.returns
-unfolding words minute
 returns c = (
   λ table tabled.
-      let told = (goal.at.returns c).In-SeaLevel-later in
-      let p = earlier-given (goal.at.returns c).In-SeaLevel in
-      let q = later-given told in
-      certified (found (goal.at.returns c).In-SeaLevel) _ _
+      let s = c.args.store.now in
+      let S = held s in
+      let m = c.args.minute in
+      let p = is_given S (m - three_hours) c.sea_level_at-earlier.ensures c.in-SeaLevel.is in
+      let q = is_given S m c.sea_level_at-later.ensures c.in-SeaLevel-later.is in
+      front s m c.is_store.ensures c.holds.ensures c.if-not-is_store.false-raw c.if-not-holds.false-raw c.if-minute-lt-THREE_HOURS.false _ _
+      (certified S m p.0 q.0 _ _
       (pass _ _ _ _ p.1 (pass _ _ _ _ q.1
-      (end _ _ (record { change = c.minus.ensures.value ∙ less q.2 p.2; absent = c.missing_minutes.ensures })))),
+      (end _ _ (record { change = c.minus.ensures.value ∙ less q.2 p.2; absent = c.missing_minutes.ensures }))))),
   refl,
 )

@@ -7,7 +7,7 @@ use Rattle.vapour.proofs.start.Goals as goal
 use Rattle.vapour.proofs.start.Goals.{In-loop-i}
 
 -- a place that e does not reach has one below it
-above : (c : In-loop-i invariant-loop decreases-loop) → 0 < c.loop-i.i
+above : (c : In-loop-i) → 0 < c.loop-i.i
 above c =
     let e = c.args.e in
     not_first e c.loop-i.i c.requires (c.threshold.ensures.short e c.loop-i-test.true)

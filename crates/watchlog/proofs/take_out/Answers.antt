@@ -38,5 +38,5 @@ returns-in-Good c =
     let q = c.args in
     let file = q.file.now in
     let good = good_there rule (take c.smaller-end.result file) (bytes_take file c.smaller-end.result (λ i. (c.slice_known-1.given i).fits)) c.read.result c.records_in-records.result c.in-Good.count (c.read.ensures rule ruled) c.in-Good.is c.records_in-records.ensures in
-    leaves_read rule (taken_in rule q.minute q.kind (length file)) q.size c.smaller-end.result file c.write_without.new.0 c.write_without.result
+    leaves_read rule (taken_in rule q.minute q.kind (length file)) q.size c.smaller-end.result file c.write_without.new.file c.write_without.result
     (given (take c.in-Good.count c.records_in-records.result)) c.smaller-end.ensures good (c.write_without.ensures rule ruled)

@@ -22,8 +22,8 @@ pub loop-i-preserved : goal.loop-i-preserved
 loop-i-preserved c =
     let l = c.loop-i in
     let q = c.args in
-    let r = get_or q.t1 l.i blank in
-    (omega arith, laid_on q.t1 l.i l.words c.lay.new.words (words_of (figures_of r)) r l.invariant.1 (omega arith) refl c.lay.ensures.0 c.lay.ensures.1 refl)
+    let r = get_or q.records l.i blank in
+    (omega arith, laid_on q.records l.i l.words c.lay.new.words (words_of (figures_of r)) r l.invariant.1 (omega arith) refl c.lay.ensures.0 c.lay.ensures.1 refl)
 
 pub returns : goal.returns
 returns c =

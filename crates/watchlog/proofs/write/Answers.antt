@@ -18,6 +18,6 @@ slice_bounds-write-end c = omega (arith, c.smaller-end.ensures, c.words_of-words
 pub returns : goal.returns
 returns c =
     λ rule ruled.
-    let n : length c.args.records ≡ 48 = c.?good.1.0.1.0.1 in
+    let n : length c.args.records ≡ 48 = c.well_formed.1.0.1.0.1 in
     wrote_first rule c.args.records c.words_of-words.result n c.words_of-words.ensures c.args.count c.smaller-end.result (length c.args.file.now) c.smaller-end.ensures
-    c.args.file.now c.write.last.0 c.write.result refl (c.write.ensures rule ruled)
+    c.args.file.now c.write.new.buffer c.write.result refl (c.write.ensures rule ruled)

@@ -20,15 +20,15 @@ left_alone : (file : Answer Numbered (List ℕ)) (before : List ℕ) → file �
 left_alone file before e = rw e (record { answer = refl; bytes = refl })
 
 -- of what is known where the place was found
-long : (c : After-place_of-at) → length c.args.t2 ≡ 48
+long : (c : After-place_of-at) → length c.args.records ≡ 48
 long c = c.well_formed.1.0.1.0.1
 
 right : (c : After-place_of-at) → kind_right c.args.kind ≡ true
 right c = sym c.kind_right.ensures ∙ not-false _ c.if-not-kind_right.false-raw
 
 place : (c : After-place_of-at)
-    → c.place_of-at.result ≡ place_of (rank c.args.minute c.args.kind) (take c.args.count c.args.t2)
-place c = c.place_of-at.ensures ∙ ap (λ (k : ℕ). place_of k (take c.args.count c.args.t2)) c.rank-wanted.ensures
+    → c.place_of-at.result ≡ place_of (rank c.args.minute c.args.kind) (take c.args.count c.args.records)
+place c = c.place_of-at.ensures ∙ ap (λ (k : ℕ). place_of k (take c.args.count c.args.records)) c.rank-wanted.ensures
 
 pub returns-then-kind-gt255 : goal.returns-then-kind-gt255
 returns-then-kind-gt255 c =
@@ -49,7 +49,7 @@ returns-then-rank_of-wanted c =
     let found = (goal.at.returns-then-rank_of-wanted c).After-place_of-at in
     let q = c.args in
     leaves rule _ (q.count - 1) q.file.now c.write.new.file c.write.result c.written.result _ (c.write.ensures rule ruled) c.written.ensures
-    (out_written rule q.t2 (long found) q.count c.requires q.minute q.kind (length q.file.now)
+    (out_written rule q.records (long found) q.count c.requires q.minute q.kind (length q.file.now)
     c.place_of-at.result (right found) (place found) _ c.pulled.ensures c.if-at-count.true
     (sym c.rank_of.ensures ∙ c.if-rank_of-wanted.true ∙ c.rank-wanted.ensures))
 
@@ -60,7 +60,7 @@ returns-else-rank_of-wanted c =
     let found = (goal.at.returns-else-rank_of-wanted c).After-place_of-at in
     let q = c.args in
     left_alone _ q.file.now
-    (none_written rule q.t2 (long found) q.count c.requires q.minute q.kind (length q.file.now)
+    (none_written rule q.records (long found) q.count c.requires q.minute q.kind (length q.file.now)
     c.place_of-at.result (right found) (place found)
     (λ l e. c.if-rank_of-wanted.false (c.rank_of.ensures ∙ e ∙ sym c.rank-wanted.ensures)))
 
@@ -70,5 +70,5 @@ returns-else-at-count c =
     let found = (goal.at.returns-else-at-count c).After-place_of-at in
     let q = c.args in
     left_alone _ q.file.now
-    (none_written rule q.t2 (long found) q.count c.requires q.minute q.kind (length q.file.now)
+    (none_written rule q.records (long found) q.count c.requires q.minute q.kind (length q.file.now)
     c.place_of-at.result (right found) (place found) (λ l e. omega (arith, c.if-at-count.false)))

@@ -19,9 +19,9 @@ use Rattle.writer.proofs.check.Goals as goal
 use Rattle.writer.proofs.check.Goals.{After-record_at-r}
 
 -- the record that is looked at is that of the list
-looked-at : (c : After-record_at-r invariant-loop decreases-loop) →
-    c.record_at-r.result ≡ at (offered c.?records.now) c.loop-i.i
-looked-at c =
+looked_at : (c : After-record_at-r) →
+    c.record_at-r.result ≡ at (offered c.args.records.now) c.loop-i.i
+looked_at c =
     let w = c.args.records.now in
     let i = c.loop-i.i in
     c.record_at-r.ensures ∙ offered_at w i (omega (arith, c.requires, c.loop-i-test.true)) c.if-i-ge-RECORDS.false
@@ -53,7 +53,7 @@ returns-then-not-record_right c =
     let count = c.args.count in
     let file = length (file_of (take count all)) in
     let wrong = not-true c.record_right.result c.if-not-record_right.true-raw in
-    let is = looked-at (goal.at.returns-then-not-record_right c).After-record_at-r in
+    let is = looked_at (goal.at.returns-then-not-record_right c).After-record_at-r in
     let inside : l.i < length all = omega (arith, length_offered w, c.requires) in
     record {
       room = tt;
@@ -76,9 +76,9 @@ loop-i-preserved c =
     let inside : l.i < length all = omega (arith, length_offered w, c.requires, c.if-i-ge-RECORDS.false) in
     let file = length (file_of (take count all)) in
     let r = c.record_at-r.result in
-    let is : r ≡ at all l.i = looked-at (goal.at.loop-i-preserved c).After-record_at-r in
+    let is : r ≡ at all l.i = looked_at (goal.at.loop-i-preserved c).After-record_at-r in
     let q : c.kind-kind.result ≡ kind_of (at all l.i).body = c.kind-kind.ensures ∙ ap (λ (x : Record). kind_of x.body) is in
-    let z : c.?type_size.result ≡ size_of (kind_of (at all l.i).body) = c.?type_size.ensures ∙ ap size_of q in
+    let z : c.size_of.result ≡ size_of (kind_of (at all l.i).body) = c.size_of.ensures ∙ ap size_of q in
     let k : c.rank-before.result ≡ rank (at all l.i).minute (kind_of (at all l.i).body) = c.rank-before.ensures ∙ ap (rank r.minute) q ∙ ap (λ (x : Record). rank x.minute (kind_of (at all l.i).body)) is in
     let shorter = rest_shorter all count l.i more inside in
     let fewer = bodies_shorter all count l.i more inside in

@@ -1,5 +1,5 @@
 -- `write_humidity` meets its contract: the five fields, one behind the other, are the body's nine bytes. Assumes nothing.
-use mathlib.Core.Path.{ap, ◌∙◌}
+use mathlib.Core.Path.{◌≡◌, ap, ◌∙◌}
 use mathlib.Core.List.{List, ◌++◌, ◌∷◌}
 use Prim.Native.Nat.{ℕ}
 use native.Mathlib.Omega.{arith}
@@ -9,10 +9,13 @@ use Rattle.octets.specs.Bytes.{bytes16}
 use Rattle.watchfile.specs.Format.{body_bytes}
 use Rattle.watchfile.specs.declared.Body.TheVariants.{Humidity}
 use Rattle.writer.proofs.write_humidity.Goals as goal
-use Rattle.writer.proofs.write_humidity.Goals.{After-slice_known-5-1}
+use Rattle.writer.proofs.write_humidity.Goals.{After-put16-4}
 
-pub returns : goal.returns
-returns c =
+-- what is written is the body's bytes
+whole : (c : After-put16-4) →
+    let q = c.args in
+    c.put16-4.new.part ≡ sets q.part.now 0 (body_bytes (Humidity q.e q.saturation q.deficit q.relative q.dew))
+whole c =
     let start = c.args in
     c.put16-4.ensures
     ∙ ap (λ (l : List ℕ). sets (set l 6 start.relative) 7 (bytes16 c.unsigned-bits.result))
@@ -29,8 +32,8 @@ put16-requires-4 c = simp length-set (omega arith)
 pub shape_of-part : goal.shape_of-part
 shape_of-part c =
     let start = c.args in
-    ap length (whole (goal.at.shape_of-part c).After-slice_known-5-1)
+    ap length (whole (goal.at.shape_of-part c).After-put16-4)
     ∙ length-sets start.part.now 0 (body_bytes (Humidity start.e start.saturation start.deficit start.relative start.dew))
 
 pub returns : goal.returns
-returns c = whole (goal.at.returns c).After-slice_known-5-1
+returns c = whole (goal.at.returns c).After-put16-4

@@ -19,10 +19,10 @@ use Rattle.writer.proofs.write_records.Goals as goal
 use Rattle.writer.proofs.write_records.Goals.{After-record_at-r, After-write_row}
 
 -- the record that is written is that of the list
-looked-at : (c : After-record_at-r invariant-loop decreases-loop) →
+looked_at : (c : After-record_at-r) →
     let all = offered c.args.records.now in
     (c.record_at-r.result ≡ at all c.loop-i.i) × (c.loop-i.i < length all)
-looked-at c =
+looked_at c =
     let w = c.args.records.now in
     let i = c.loop-i.i in (
       c.record_at-r.ensures ∙ offered_at w i (omega (arith, c.requires.0, c.loop-i-test.true)) (omega (arith, c.requires.2, c.loop-i-test.true)),
@@ -30,17 +30,18 @@ looked-at c =
     )
 
 -- and its row has its kind and minute
-row_first : (c : After-write_row invariant-loop decreases-loop) →
+row_first : (c : After-write_row) →
     let l = c.loop-i in
     let all = offered c.args.records.now in
     c.write_row.new.part ≡ sets (part l.buffer l.row) 0 (row_bytes (at all l.i) l.at)
 row_first c =
     let l = c.loop-i in
+    let w = c.args.records.now in
     let r = c.record_at-r.result in
     let p = part l.buffer l.row in
     c.write_row.ensures
     ∙ ap (λ (k : ℕ). sets p 0 (k ∷ 0 ∷ (bytes16 l.at ++ bytes32 r.minute))) c.kind-kind.ensures
-    ∙ ap (λ (x : Record). sets p 0 (row_bytes x l.at)) (looked-at c.before.before.before).0
+    ∙ ap (λ (x : Record). sets p 0 (row_bytes x l.at)) (c.record_at-r.ensures ∙ offered_at w l.i (omega (arith, c.requires.0, c.loop-i-test.true)) (omega (arith, c.requires.2, c.loop-i-test.true)))
 
 pub loop-i-init : goal.loop-i-init
 loop-i-init c =
@@ -55,14 +56,14 @@ pub slice_bounds-write_body-start : goal.slice_bounds-write_body-start
 slice_bounds-write_body-start c =
     let l = c.loop-i in
     let all = offered c.args.records.now in
-    let same = row_put_length all c.args.count l.i l.row l.at l.buffer c.write_row.new.part c.loop-i-test.true (looked-at (goal.at.slice_bounds-write_body-start c).After-record_at-r).1 l.invariant.2 l.invariant.4 (omega arith) (row_first (goal.at.slice_bounds-write_body-start c).After-write_row) in
+    let same = row_put_length all c.args.count l.i l.row l.at l.buffer c.write_row.new.part c.loop-i-test.true (looked_at (goal.at.slice_bounds-write_body-start c).After-record_at-r).1 l.invariant.2 l.invariant.4 (omega arith) (row_first (goal.at.slice_bounds-write_body-start c).After-write_row) in
     omega arith
 
 pub write_body-requires : goal.write_body-requires
 write_body-requires c =
     let l = c.loop-i in
     let all = offered c.args.records.now in
-    let is = looked-at (goal.at.write_body-requires c).After-record_at-r in
+    let is = looked_at (goal.at.write_body-requires c).After-record_at-r in
     rw is.0
     (body_room all c.args.count l.i l.row l.at l.buffer c.write_row.new.part c.loop-i-test.true is.1 l.invariant.2 l.invariant.4 (omega arith) (row_first (goal.at.write_body-requires c).After-write_row))
 
@@ -75,7 +76,7 @@ loop-i-preserved c =
     let all = offered c.args.records.now in
     let count = c.args.count in
     let more = c.loop-i-test.true in
-    let is = looked-at (goal.at.loop-i-preserved c).After-record_at-r in
+    let is = looked_at (goal.at.loop-i-preserved c).After-record_at-r in
     let room : l.at + length (bodies_bytes (rest all count l.i)) ≤ length l.buffer = omega arith in
     let row = (goal.at.loop-i-preserved c).After-write_row in
     let first = row_first row in
@@ -83,7 +84,7 @@ loop-i-preserved c =
     let second = c.write_body.ensures ∙ ap (λ (x : Record). sets (part (joined l.buffer l.row c.write_row.new.part) l.at) 0 (body_bytes x.body)) is.0 in
     let len = put_length all count l.i l.row l.at l.buffer c.write_row.new.part more is.1 l.invariant.2 l.invariant.4 room first whole c.write_body.new.part l.invariant.6 second in
     let turn = put_turn all count l.i l.row l.at l.buffer c.write_row.new.part more is.1 l.invariant.2 l.invariant.4 room first whole c.write_body.new.part l.invariant.6 second in
-    let z : c.?type_size.result ≡ size_of (kind_of (at all l.i).body) = c.?type_size.ensures ∙ ap size_of (c.kind-kind.ensures ∙ ap (λ (x : Record). kind_of x.body) is.0) in
+    let z : c.size_of-at.result ≡ size_of (kind_of (at all l.i).body) = c.size_of-at.ensures ∙ ap size_of (c.kind-kind.ensures ∙ ap (λ (x : Record). kind_of x.body) is.0) in
     let shorter = bodies_shorter all count l.i more is.1 in
     let most = size_most c.kind-kind.result in
     (omega arith, len ∙ l.invariant.1, omega arith, omega arith, omega arith, omega arith, rw z turn)

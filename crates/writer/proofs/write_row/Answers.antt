@@ -7,7 +7,6 @@ use lib.ListN.{length, length-set}
 use lib.Seq.{sets, length-sets}
 use Rattle.octets.specs.Bytes.{bytes16, bytes32}
 use Rattle.writer.proofs.write_row.Goals as goal
-use Rattle.writer.proofs.write_row.Goals.{After-slice_known-3-1}
 
 pub returns : goal.returns
 returns c = c.put32.ensures ∙ ap (λ (l : List ℕ). sets l 4 (bytes32 c.args.minute)) c.put16.ensures
@@ -24,7 +23,4 @@ put32-requires c = omega (arith, simp length-set at (ap length c.put16.ensures))
 pub shape_of-part : goal.shape_of-part
 shape_of-part c =
     let start = c.args in
-    ap length (whole (goal.at.shape_of-part c).After-slice_known-3-1) ∙ length-sets start.part.now 0 (start.kind ∷ 0 ∷ (bytes16 start.offset ++ bytes32 start.minute))
-
-pub returns : goal.returns
-returns c = whole (goal.at.returns c).After-slice_known-3-1
+    ap length (c.put32.ensures ∙ ap (λ (l : List ℕ). sets l 4 (bytes32 start.minute)) c.put16.ensures) ∙ length-sets start.part.now 0 (start.kind ∷ 0 ∷ (bytes16 start.offset ++ bytes32 start.minute))
