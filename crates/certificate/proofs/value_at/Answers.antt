@@ -54,7 +54,7 @@ loop-i-preserved c =
     let x = c.args.x.v in
     let corner = corner_at c.args.scale s in
     let not_round : stands (corner c.loop-i.i) (corner (c.loop-i.i + 1)) x ≡ false = elim c.if-up_to.branch [
-      then-up_to+else-around w ↦ said x w.around.ensures w.corner_in-p.ensures q w.if-around.false
+      | then-up_to+else-around w ↦ said x w.around.ensures w.corner_in-p.ensures q w.if-around.false
       | else-up_to w ↦ beyond x (corner c.loop-i.i) c.up_to.ensures q w.if-up_to.false
     ] in (
       search rules,

@@ -86,12 +86,6 @@ slice_bounds-test_body-start c = let o = offset (goal.at.slice_bounds-test_body-
 pub slice_bounds-test_body-end : goal.slice_bounds-test_body-end
 slice_bounds-test_body-end c = let o = offset (goal.at.slice_bounds-test_body-end c).After-get16-at in omega arith
 
-pub enum_told-1 : goal.enum_told-1
-enum_told-1 c = c.in-Right.in-Right-own.keys1
-
-pub enum_known-k : goal.enum_known-k
-enum_known-k c = c.in-Wrong.in-Wrong-own.keys2
-
 pub overflow_add-place : goal.overflow_add-place
 overflow_add-place c = let t = stop (goal.at.overflow_add-place c).In-Wrong (offset (goal.at.overflow_add-place c).After-get16-at) the_rule.0 the_rule.1 in omega arith
 

@@ -28,14 +28,8 @@ loop-i-init c =
     let e : c.args.count - 0 ≡ c.args.count = omega arith in
     (omega arith, omega arith, omega arith, omega arith, rw e)
 
-pub enum_known-row : goal.enum_known-row
-enum_known-row c = c.in-Good.in-Good-own.keys1
-
 pub overflow_add-next-in-Good : goal.overflow_add-next-in-Good
 overflow_add-next-in-Good c = omega (arith, size_most c.in-Good.row.kind)
-
-pub enum_known-k : goal.enum_known-k
-enum_known-k c = c.in-Broken.in-Broken-own.keys2
 
 pub overflow_add-result : goal.overflow_add-result
 overflow_add-result c = let t = stop (goal.at.overflow_add-result c).In-Broken in omega arith

@@ -12,20 +12,8 @@ use Rattle.reader.proofs.find.Goals as goal
 pub returns-then-file-lt4 : goal.returns-then-file-lt4
 returns-then-file-lt4 c = few c.args.file.now c.args.i c.if-file-lt4.true
 
-pub overflow_cast-file : goal.overflow_cast-file
-overflow_cast-file c = omega (arith, c.shared_slice_known-2-1.given 3)
-
 pub returns-then-i-file : goal.returns-then-i-file
 returns-then-i-file c = let q = c.args in not_counted q.file.now q.i c.if-i-file.true
-
-pub overflow_mul-row : goal.overflow_mul-row
-overflow_mul-row c = omega (arith, c.shared_slice_known-2-1.given 3)
-
-pub overflow_add-row : goal.overflow_add-row
-overflow_add-row c = omega (arith, c.shared_slice_known-2-1.given 3)
-
-pub overflow_add-row-2 : goal.overflow_add-row-2
-overflow_add-row-2 c = omega (arith, c.shared_slice_known-2-1.given 3)
 
 pub returns-then-file-row : goal.returns-then-file-row
 returns-then-file-row c = let q = c.args in row_cut q.file.now q.i c.if-i-file.false c.if-file-row.true

@@ -69,9 +69,6 @@ returns-then-file-lt4 c =
     λ rule ruled.
     ap counted (sym (past_label (goal.at.returns-then-file-lt4 c).Else-not-label_right rule ∙ past_version (goal.at.returns-then-file-lt4 c).Else-file-ne1 rule ∙ cut _ _ _ _ c.if-file-lt4.true))
 
-pub overflow_cast-count : goal.overflow_cast-count
-overflow_cast-count c = omega (arith, c.shared_slice_known-5-1.given 3)
-
 pub returns-then-count-gt-RECORDS : goal.returns-then-count-gt-RECORDS
 returns-then-count-gt-RECORDS c =
     λ rule ruled.
