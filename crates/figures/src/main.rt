@@ -4,7 +4,6 @@
 
 use block::Store;
 use humidity::Moisture;
-use libc::STDOUT_FILENO;
 use number::{Kept, Number};
 use pressure::{BarometerReading, WorkedPressure};
 use quantity::{
@@ -16,22 +15,19 @@ use settings::{
     SeaLevelDifference, Settings, TemperatureCoefficient,
 };
 use station::{QuestionRefusal, Refused, TendencyAnswer};
+use std::io;
 use wind::TrueWind;
 
-fn say(text: &[u8]) {
-    io::write_all(STDOUT_FILENO, text);
-}
-
-fn say_number(n: Number) {
-    say(b" ");
+fn say_number(rt: &impl Print, n: Number) -> io::Result<()> {
+    print!(rt; " ")?;
     if n.is_minus() {
-        say(b"-");
+        print!(rt; "-")?;
     }
-    io::print_decimal(STDOUT_FILENO, n.size());
+    print!(rt; "{}", n.size())
 }
 
-fn say_natural(n: u32) {
-    say_number(Number::whole(n));
+fn say_natural(rt: &impl Print, n: u32) -> io::Result<()> {
+    say_number(rt, Number::whole(n))
 }
 
 fn point(reading: i32, correction: i32) -> Point {
@@ -70,7 +66,7 @@ fn settings(difference: i32) -> Settings {
 }
 
 // Reading 741.9 mm Hg at 12.4 °C.
-fn pressure_at_sea_level(difference: i32) {
+fn pressure_at_sea_level(rt: &impl Print, difference: i32) -> io::Result<()> {
     let mut store = [0u64; block::WORDS];
     store::open(&mut store, settings(difference));
     match pressure::sea_level_pressure(
@@ -79,16 +75,22 @@ fn pressure_at_sea_level(difference: i32) {
         WheelhouseTemperature(Kept { v: 124 }),
     ) {
         WorkedPressure::Given(p) => {
-            say(b"pressure");
-            say_number(p.0);
-            say(b"\n");
+            print!(rt; "pressure")?;
+            say_number(rt, p.0)?;
+            println!(rt)
         }
-        WorkedPressure::OutsideLimits => say(b"refused 7\n"),
-        WorkedPressure::OutsideCertificate => say(b"refused 12\n"),
+        WorkedPressure::OutsideLimits => println!(rt; "refused 7"),
+        WorkedPressure::OutsideCertificate => println!(rt; "refused 12"),
     }
 }
 
-fn true_wind(course: u32, ship: u32, apparent: u32, from_bow: u32) {
+fn true_wind(
+    rt: &impl Print,
+    course: u32,
+    ship: u32,
+    apparent: u32,
+    from_bow: u32,
+) -> io::Result<()> {
     match wind::true_wind(
         Degrees(course),
         Knots(ship),
@@ -96,17 +98,17 @@ fn true_wind(course: u32, ship: u32, apparent: u32, from_bow: u32) {
         Degrees(from_bow),
     ) {
         TrueWind::Blows(v, d) => {
-            say(b"wind");
-            say_natural(v.0);
-            say_natural(d.0);
-            say(b"\n");
+            print!(rt; "wind")?;
+            say_natural(rt, v.0)?;
+            say_natural(rt, d.0)?;
+            println!(rt)
         }
-        TrueWind::OutsideLimits => say(b"refused 7\n"),
+        TrueWind::OutsideLimits => println!(rt; "refused 7"),
     }
 }
 
 // At 1000.0 hPa, A 662.
-fn humidity_of(state: BulbState, dry: i32, wet: i32) {
+fn humidity_of(rt: &impl Print, state: BulbState, dry: i32, wet: i32) -> io::Result<()> {
     let pressure = Hectopascals(Number { v: 10000 });
     let a = PsychrometerCoefficient(Kept { v: 662 });
     match humidity::humidity(
@@ -117,21 +119,21 @@ fn humidity_of(state: BulbState, dry: i32, wet: i32) {
         a,
     ) {
         Moisture::Given(h) => {
-            say(b"humidity");
-            say_natural(h.e.0);
-            say_natural(h.saturation.0);
-            say_natural(h.deficit.0);
-            say_natural(h.relative);
+            print!(rt; "humidity")?;
+            say_natural(rt, h.e.0)?;
+            say_natural(rt, h.saturation.0)?;
+            say_natural(rt, h.deficit.0)?;
+            say_natural(rt, h.relative)?;
             let dew = h.dew;
-            say_number(dew.0.number());
-            say(b"\n");
+            say_number(rt, dew.0.number())?;
+            println!(rt)
         }
-        Moisture::WetAboveDry => say(b"refused 13\n"),
-        Moisture::TooWarmForIce => say(b"refused 20\n"),
-        Moisture::UnknownOutsideRange => say(b"refused 21\n"),
-        Moisture::AboveSaturation => say(b"refused 22\n"),
-        Moisture::TooDry => say(b"refused 15\n"),
-        Moisture::OutsideLimits => say(b"refused 7\n"),
+        Moisture::WetAboveDry => println!(rt; "refused 13"),
+        Moisture::TooWarmForIce => println!(rt; "refused 20"),
+        Moisture::UnknownOutsideRange => println!(rt; "refused 21"),
+        Moisture::AboveSaturation => println!(rt; "refused 22"),
+        Moisture::TooDry => println!(rt; "refused 15"),
+        Moisture::OutsideLimits => println!(rt; "refused 7"),
     }
 }
 
@@ -143,38 +145,36 @@ fn hear_both(store: &mut Store, low: u8, high: u8) {
     station::hear(store, &thermometer);
 }
 
-fn say_refusal(r: QuestionRefusal) {
-    say(b"refused");
+fn say_refusal(rt: &impl Print, r: QuestionRefusal) -> io::Result<()> {
+    print!(rt; "refused")?;
     match station::number(r) {
-        Refused::Plain(n) => say_natural(n),
+        Refused::Plain(n) => say_natural(rt, n)?,
         Refused::OfMinute(n, m) => {
-            say_natural(n);
-            say_natural(m.0);
+            say_natural(rt, n)?;
+            say_natural(rt, m.0)?;
         }
         Refused::OfReading(n, c, m) => {
-            say_natural(n);
-            say_natural(c);
-            say_natural(m.0);
+            say_natural(rt, n)?;
+            say_natural(rt, c)?;
+            say_natural(rt, m.0)?;
         }
     }
-    say(b"\n");
+    println!(rt)
 }
 
-fn tendency_at(store: &Store, minute: u32) {
+fn tendency_at(rt: &impl Print, store: &Store, minute: u32) -> io::Result<()> {
     match station::tendency(store, minute) {
         TendencyAnswer::Given(c, absent) => {
-            say(b"tendency");
-            say_number(c.0);
-            say(b" ");
-            io::print_decimal(STDOUT_FILENO, absent);
-            say(b"\n");
+            print!(rt; "tendency")?;
+            say_number(rt, c.0)?;
+            println!(rt; " {absent}")
         }
-        TendencyAnswer::Refused(r) => say_refusal(r),
+        TendencyAnswer::Refused(r) => say_refusal(rt, r),
     }
 }
 
 // Barometer and thermometer at 100 and 280 only, then both at 400.
-fn watch_with_a_gap() {
+fn watch_with_a_gap(rt: &impl Print) -> io::Result<()> {
     let mut store = [0u64; block::WORDS];
     let first = point(8500, 0);
     let mut points = [first; 16];
@@ -194,29 +194,29 @@ fn watch_with_a_gap() {
     );
     hear_both(&mut store, 100, 0);
     hear_both(&mut store, 24, 1);
-    tendency_at(&store, 280);
+    tendency_at(rt, &store, 280)?;
     hear_both(&mut store, 144, 1);
-    tendency_at(&store, 400);
+    tendency_at(rt, &store, 400)
 }
 
-fn main() {
-    pressure_at_sea_level(0);
-    pressure_at_sea_level(-268);
-    true_wind(260, 125, 25, 40);
-    true_wind(30, 100, 0, 0);
-    true_wind(90, 100, 50, 0);
-    true_wind(350, 0, 80, 20);
-    true_wind(0, 0, 100, 0);
-    true_wind(0, 0, 0, 0);
-    humidity_of(BulbState::Water, 200, 150);
-    humidity_of(BulbState::Water, 0, 0);
-    humidity_of(BulbState::Water, -400, -400);
-    humidity_of(BulbState::Ice, -100, -100);
-    humidity_of(BulbState::Water, 300, 50);
-    humidity_of(BulbState::Unknown, -50, -50);
-    humidity_of(BulbState::Unknown, -50, -51);
-    humidity_of(BulbState::Ice, 0, 1);
-    humidity_of(BulbState::Unknown, -100, -100);
-    humidity_of(BulbState::Ice, -85, -82);
-    watch_with_a_gap();
+fn main(rt: HostRuntime) -> io::Result<()> {
+    pressure_at_sea_level(&rt, 0)?;
+    pressure_at_sea_level(&rt, -268)?;
+    true_wind(&rt, 260, 125, 25, 40)?;
+    true_wind(&rt, 30, 100, 0, 0)?;
+    true_wind(&rt, 90, 100, 50, 0)?;
+    true_wind(&rt, 350, 0, 80, 20)?;
+    true_wind(&rt, 0, 0, 100, 0)?;
+    true_wind(&rt, 0, 0, 0, 0)?;
+    humidity_of(&rt, BulbState::Water, 200, 150)?;
+    humidity_of(&rt, BulbState::Water, 0, 0)?;
+    humidity_of(&rt, BulbState::Water, -400, -400)?;
+    humidity_of(&rt, BulbState::Ice, -100, -100)?;
+    humidity_of(&rt, BulbState::Water, 300, 50)?;
+    humidity_of(&rt, BulbState::Unknown, -50, -50)?;
+    humidity_of(&rt, BulbState::Unknown, -50, -51)?;
+    humidity_of(&rt, BulbState::Ice, 0, 1)?;
+    humidity_of(&rt, BulbState::Unknown, -100, -100)?;
+    humidity_of(&rt, BulbState::Ice, -85, -82)?;
+    watch_with_a_gap(&rt)
 }

@@ -6,15 +6,13 @@ use Prim.Native.Nat.{ℕ, suc, ◌+◌, ◌-◌, ◌≤◌}
 use native.Mathlib.Omega.{arith}
 use lib.IntN.{ℤ}
 use lib.ListN.{length, drop, get_or}
-use Rattle.number.specs.Refusal.{Answer, refused, given}
+use Rattle.number.specs.Refusal.{refused, given}
 use Rattle.octets.specs.Bytes.{le32}
 use Rattle.watchfile.specs.Rules.{size_of, rank}
-use Rattle.watchfile.specs.Format.{DewRule, rows_fields, bodies_fields, records_from, start_of}
-use Rattle.watchfile.specs.declared.Record.{Record}
+use Rattle.watchfile.specs.Format.{DewRule, rows_fields, records_from, start_of}
 use Rattle.watchfile.proofs.DewRules.{the_rule}
 use Rattle.watchfile.proofs.FieldLaws.{given_passed, size_most}
 use Rattle.reader.specs.Read.{counted}
-use Rattle.reader.specs.Work.{found}
 use Rattle.reader.specs.declared.BodyTested.{BodyTested}
 use Rattle.reader.proofs.ContentsLaws.{part, length_part}
 use Rattle.reader.proofs.BodiesLaws.{kind_at, kind_is, row_right, BodyAt, body_stop, body_on, end_extra, end_none, length_records}

@@ -11,7 +11,6 @@ use Rattle.watchfile.specs.Rules.{deficit_right, relative_right, dew_right}
 use Rattle.watchfile.specs.Format.{DewRule, humidity_fields}
 use Rattle.watchfile.proofs.FieldLaws.{cut, wrong, right, none}
 use Rattle.reader.specs.Work.{found}
-use borrow.Author.Rules.{rules}
 use Rattle.reader.proofs.test_derived.Goals as goal
 use Rattle.reader.proofs.test_derived.Goals.{After-deficit_right, After-dew_right, After-relative_right, Else-not-deficit_right, Else-not-relative_right}
 
