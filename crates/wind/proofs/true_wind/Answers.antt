@@ -11,13 +11,13 @@ use Rattle.wind.proofs.LimitLaws.{speeds_most}
 use Rattle.wind.proofs.true_wind.Goals as goal
 use Rattle.wind.proofs.true_wind.Goals.{After-parts-k, Else-not-within_limits}
 
-inside : (c : Else-not-within_limits) → within_limits c.args.course.0 c.args.ship.0 c.args.apparent.0 c.args.from-bow.0 ≡ true
+inside : (c : Else-not-within_limits) → within_limits c.args.course.0 c.args.ship.0 c.args.apparent.0 c.args.from_bow.0 ≡ true
 inside c = sym c.within_limits.ensures ∙ not-false _ c.if-not-within_limits.false-raw
 
 most : (c : Else-not-within_limits) → (c.args.ship.0 ≤ nat_abs knots.high) × (c.args.apparent.0 ≤ nat_abs metres_per_second.high)
 most c =
     let a = c.args in
-    speeds_most a.course.0 a.ship.0 a.apparent.0 a.from-bow.0 (inside c)
+    speeds_most a.course.0 a.ship.0 a.apparent.0 a.from_bow.0 (inside c)
 
 pub returns-then-not-within_limits : goal.returns-then-not-within_limits
 returns-then-not-within_limits c = sym c.within_limits.ensures ∙ not-true _ c.if-not-within_limits.true-raw
