@@ -5,6 +5,8 @@
 use anemometer::Note;
 use block::Store;
 use command::{Command, Verb};
+use std::io;
+use std::io::Read;
 
 // The longest line. The most bytes that it says in hex, so `unhex` finds room; more than any answer and any watch file.
 const LINE: usize = 8192;
@@ -22,33 +24,30 @@ fn first(bytes: &[u8], n: usize) -> &[u8] {
     &bytes[..k]
 }
 
-fn say(words: &[u8]) {
-    io::write_all(libc::STDOUT_FILENO, words);
-}
-
-fn tell(text: &[u8; BYTES], n: usize) {
-    say(first(text, n));
+fn tell(rt: &impl Print, text: &[u8; BYTES], n: usize) -> io::Result<()> {
+    rt.write_all(first(text, n))
 }
 
 // A refused opening leaves the store that was open.
-fn open(store: &mut Store, numbers: &[u64], words: usize) {
+fn open(rt: &impl Print, store: &mut Store, numbers: &[u64], words: usize) -> io::Result<()> {
     let mut text = [0u8; BYTES];
     let r = station::open(store, values::settings_of(numbers, words));
     let n = answer::put_opening(&mut text, 0, r);
-    tell(&text, n);
+    tell(rt, &text, n)
 }
 
-fn hear(store: &mut Store, word: &[u8]) {
+fn hear(rt: &impl Print, store: &mut Store, word: &[u8]) -> io::Result<()> {
     let mut bytes = [0u8; BYTES];
     if let hexadecimal::Unhexed::Bytes(n) = hexadecimal::unhex(word, &mut bytes) {
         let r = station::hear(store, first(&bytes, n));
         let k = answer::put_hearing(&mut bytes, 0, r);
-        tell(&bytes, k);
+        tell(rt, &bytes, k)?;
     }
+    Ok(())
 }
 
 // Hears the entry that the first five numbers say.
-fn note(store: &mut Store, numbers: &[u64; command::NUMBERS]) {
+fn note(rt: &impl Print, store: &mut Store, numbers: &[u64; command::NUMBERS]) -> io::Result<()> {
     let mut text = [0u8; BYTES];
     let n = Note {
         minute: short(numbers[0]),
@@ -59,11 +58,11 @@ fn note(store: &mut Store, numbers: &[u64; command::NUMBERS]) {
     };
     let r = station::note(store, n);
     let k = answer::put_noting(&mut text, 0, r);
-    tell(&text, k);
+    tell(rt, &text, k)
 }
 
 // Asks the question of a verb.
-fn ask(store: &Store, verb: Verb, m: u32) {
+fn ask(rt: &impl Print, store: &Store, verb: Verb, m: u32) -> io::Result<()> {
     let mut text = [0u8; BYTES];
     let n = match verb {
         Verb::Pressure => answer::put_pressure(&mut text, 0, m, station::pressure(store, m)),
@@ -71,22 +70,29 @@ fn ask(store: &Store, verb: Verb, m: u32) {
         Verb::Wind => answer::put_wind(&mut text, 0, m, station::wind(store, m)),
         _ => answer::put_humidity(&mut text, 0, m, station::humidity(store, m)),
     };
-    tell(&text, n);
+    tell(rt, &text, n)
 }
 
 // Lists the watch file that a word in hex says.
-fn read(word: &[u8]) {
+fn read(rt: &impl Print, word: &[u8]) -> io::Result<()> {
     let mut file = [0u8; BYTES];
     let mut text = [0u8; BYTES];
     if let hexadecimal::Unhexed::Bytes(size) = hexadecimal::unhex(word, &mut file) {
         if let listing::Listed::Text(n) = listing::list(first(&file, size), &mut text) {
-            tell(&text, n);
+            tell(rt, &text, n)?;
         }
     }
+    Ok(())
 }
 
 // Writes records into lent bytes of that room; more than the longest file needs makes no difference.
-fn write(numbers: &[u64], words: usize, room: usize, file: &mut [u8]) {
+fn write(
+    rt: &impl Print,
+    numbers: &[u64],
+    words: usize,
+    room: usize,
+    file: &mut [u8],
+) -> io::Result<()> {
     let mut text = [0u8; BYTES];
     let records = values::records_of(numbers, words);
     let count = if words > 0 { words - 1 } else { 0 };
@@ -96,13 +102,13 @@ fn write(numbers: &[u64], words: usize, room: usize, file: &mut [u8]) {
         writer::Written::Done(size) => answer::put_written(&mut text, 0, r, first(file, size)),
         _ => answer::put_written(&mut text, 0, r, b""),
     };
-    tell(&text, n);
+    tell(rt, &text, n)
 }
 
 // Does what a line of n bytes says. To hear and to ask there has to be a store, which a good opening makes.
-fn answer_line(bytes: &[u8], n: usize, store: &mut Store) {
+fn answer_line(rt: &impl Print, bytes: &[u8], n: usize, store: &mut Store) -> io::Result<()> {
     if n > LINE {
-        return say(b"the line is too long: 8192 bytes at most\n");
+        return println!(rt; "the line is too long: 8192 bytes at most");
     }
     let mut numbers = [0u64; command::NUMBERS];
     let mut text = [0u8; BYTES];
@@ -111,57 +117,55 @@ fn answer_line(bytes: &[u8], n: usize, store: &mut Store) {
     let command = command::parse(line, &mut numbers);
     let m = short(numbers[0]);
     match command {
-        Command::Nothing => {}
+        Command::Nothing => Ok(()),
         Command::Wrong(fault) => {
             let k = notice::put_fault(&mut text, 0, fault);
-            tell(&text, k);
+            tell(rt, &text, k)
         }
         Command::Does(verb, words) => match verb {
-            Verb::Open => open(store, &numbers, words),
-            Verb::Read => read(word),
-            Verb::Write => write(&numbers, words, m as usize, &mut text),
+            Verb::Open => open(rt, store, &numbers, words),
+            Verb::Read => read(rt, word),
+            Verb::Write => write(rt, &numbers, words, m as usize, &mut text),
             _ => {
                 if !block::is_store(store) {
-                    return say(b"no store is open\n");
+                    return println!(rt; "no store is open");
                 }
                 match verb {
-                    Verb::Hear => hear(store, word),
-                    Verb::Note => note(store, &numbers),
-                    _ => ask(store, verb, m),
+                    Verb::Hear => hear(rt, store, word),
+                    Verb::Note => note(rt, store, &numbers),
+                    _ => ask(rt, store, verb, m),
                 }
             }
         },
     }
 }
 
-fn main() {
+fn main(rt: HostRuntime) -> io::Result<()> {
     let mut store = [0u64; block::WORDS];
     let mut input = [0u8; BYTES];
     let mut line = [0u8; LINE];
     let mut filled: usize = 0;
-    let mut turns = u64::MAX;
-    while turns > 0 {
-        let got = libc::read(libc::STDIN_FILENO, &mut input);
-        let n = io::count(got, &input);
-        let mut i: usize = 0;
-        while i < n {
-            let b = input[i];
-            i += 1;
-            if b == b'\n' {
-                answer_line(&line, filled, &mut store);
+    for _ in 0..u64::MAX {
+        let n = rt.stdin().read(&mut input)?;
+        if n == 0 {
+            break;
+        }
+        for b in &input[..n] {
+            if *b == b'\n' {
+                answer_line(&rt, &line, filled, &mut store)?;
                 filled = 0;
                 continue;
             }
             if filled < LINE {
-                line[filled] = b;
+                line[filled] = *b;
                 filled += 1;
                 continue;
             }
             filled = LINE + 1;
         }
-        turns = if n == 0 { 0 } else { turns - 1 };
     }
     if filled > 0 {
-        answer_line(&line, filled, &mut store);
+        answer_line(&rt, &line, filled, &mut store)?;
     }
+    Ok(())
 }

@@ -28,7 +28,7 @@ use Rattle.station.specs.Told.{Change}
 use Rattle.heard.proofs.StoreLaws.{by_messages}
 use Rattle.station.proofs.SingleAnswers.{one_reply}
 use Rattle.demands.specs.EmptyPrograms.{Program, Meets, Use, block_of, opening_in, hearing_in, answer_in, change_of, change_in, Refuses, Constant, StoresNothing, StoresOnlyTheFirst, InventsTheCount}
-use Rattle.demands.proofs.WorkingLaws.{lent}
+use Rattle.demands.proofs.WorkingLaws.{lent, lent_mut}
 use Rattle.demands.proofs.WatchAnswers as watch
 use Rattle.demands.proofs.WatchAnswers.{ship, good, others, at_100, at_280, quiet, busier, falling, pressed, missing, changed, blown, moist}
 
@@ -76,9 +76,9 @@ relative h = h.relative
 module _ (p : Program) (meets : Meets p) where
   block_is : (s : List ℕ) (g : Settings) → checked g ≡ given tt → (M : List Sent) → block_of p s g M ≡ store_of g M
   unfolding block_of
-  block_is s g is [] = (meets.opens ([], tt) (lent s, (g, tt))).1 ∙ sym (opens s g is)
-  block_is s g is (note n ∷ M) = (meets.notes ([], tt) (lent (block_of p s g M), (n, tt))).block ∙ ap (λ (b : List ℕ). noted_by b n) (block_is s g is M)
-  block_is s g is (bytes m ∷ M) = (meets.hears ([], ([], tt)) (lent (block_of p s g M), (lent m, tt))).block ∙ ap (λ (b : List ℕ). heard_by b m) (block_is s g is M)
+  block_is s g is [] = (meets.opens ([], tt) (lent_mut s, (g, tt))).1 ∙ sym (opens s g is)
+  block_is s g is (note n ∷ M) = (meets.notes ([], tt) (lent_mut (block_of p s g M), (n, tt))).block ∙ ap (λ (b : List ℕ). noted_by b n) (block_is s g is M)
+  block_is s g is (bytes m ∷ M) = (meets.hears ([], ([], tt)) (lent_mut (block_of p s g M), (lent m, tt))).block ∙ ap (λ (b : List ℕ). heard_by b m) (block_is s g is M)
 
   module _ (M : List Sent) (m : ℕ) where
     b : List ℕ
@@ -104,12 +104,12 @@ module _ (p : Program) (meets : Meets p) where
 
     hearing_is : (n : List ℕ) → hearing_in p n (after M m) ≡ outcome (hearing (store_of ship M) n)
     unfolding b
-    hearing_is n = (meets.hears ([], ([], tt)) (lent b, (lent n, tt))).answer ∙ ap (λ (x : List ℕ). outcome (hearing x n)) is
+    hearing_is n = (meets.hears ([], ([], tt)) (lent_mut b, (lent n, tt))).answer ∙ ap (λ (x : List ℕ). outcome (hearing x n)) is
 
   -- ---- on the watch
 
   opening_given : opening_in p (after [] 0) ≡ given tt
-  opening_given = (meets.opens ([], tt) (lent memory, (ship, tt))).0 ∙ good
+  opening_given = (meets.opens ([], tt) (lent_mut memory, (ship, tt))).0 ∙ good
 
   hearing_given : hearing_in p at_100 (after others 280) ≡ given tt
   hearing_given = hearing_is others 280 at_100 ∙ watch.hears_at_100

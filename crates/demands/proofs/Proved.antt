@@ -50,7 +50,7 @@ use Rattle.listing.proofs.RefusalsInOrder.{list_refused}
 use Rattle.listing.proofs.ListTheorems as listed
 use Rattle.demands.specs.Working.{Opens, Hears, Notes, Working, WritesFile}
 use Rattle.demands.specs.Demands.{Demand1, Demand2, Demand3}
-use Rattle.demands.proofs.WorkingLaws.{lent, open_answer, open_block, hear_answer, hear_block, note_answer, note_block, asks_leaves, good, block, replies, replies_on}
+use Rattle.demands.proofs.WorkingLaws.{lent, lent_mut, open_answer, open_block, hear_answer, hear_block, note_answer, note_block, asks_leaves, good, block, replies, replies_on}
 use Rattle.demands.proofs.FileLaws.{read_is, write_is, list_is, file_again, records_again, listed_as_lem}
 use Rattle.demands.proofs.EnteredAnswers.{recorded}
 use Rattle.demands.proofs.EnteredWinds.{entered_wind}
@@ -150,7 +150,7 @@ goes_on b m =
     e in (
       a.0,
       heard_by b m,
-      (([], ([], tt)), (lent b, (lent m, tt)), a.0, (at_last (lent b) (heard_by b m), (lent m, tt)), record { answer = a.1; block = refl }, (refl, refl, refl, refl)),
+      (([], ([], tt)), (lent_mut b, (lent m, tt)), a.0, (at_last (lent_mut b) (heard_by b m), (lent m, tt)), record { answer = a.1; block = refl }, (refl, refl, refl, refl)),
     )
 
 takes_entries : (b : List ℕ) (e : Note) → (h : Hearing) × (b' : List ℕ) × Notes b e h b'
@@ -175,7 +175,7 @@ takes_entries b e =
     (wind_entry (certificate_held b) (course_at b e) e) in (
       a.0,
       noted_by b e,
-      (([], tt), (lent b, (e, tt)), a.0, (at_last (lent b) (noted_by b e), (e, tt)), record { answer = a.1; block = refl }, (refl, refl, refl, refl)),
+      (([], tt), (lent_mut b, (e, tt)), a.0, (at_last (lent_mut b) (noted_by b e), (e, tt)), record { answer = a.1; block = refl }, (refl, refl, refl, refl)),
     )
 
 pub demand_1 : Demand1

@@ -3,7 +3,7 @@
 use mathlib.Core.Path.{◌≡◌, sym, ap, subst, ◌∙◌}
 use mathlib.Core.List.{List, [], ◌∷◌}
 use Prim.Native.Nat.{ℕ}
-use denote.Ref.{Bor}
+use denote.Ref.{Bor, MutBor}
 use Rattle.number.specs.Refusal.{given}
 use Rattle.settings.specs.Settings.{checked, checked_as}
 use Rattle.settings.specs.declared.Settings.{Settings}
@@ -25,6 +25,10 @@ use Rattle.demands.specs.Working.{Opens, Hears, Notes, Asks, Working, Replies}
 -- words lent, wherever they lie
 abbrev pub lent : List ℕ → Bor (List ℕ)
 lent s = record { ref_ptr = (0, 0); now = s }
+
+-- and to be changed
+abbrev pub lent_mut : List ℕ → MutBor (List ℕ)
+lent_mut s = record { ref_ptr = (0, 0); ghost_name = 0; now = s }
 
 -- ---- single calls
 

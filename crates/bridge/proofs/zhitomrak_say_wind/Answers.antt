@@ -5,7 +5,7 @@ use Rattle.bridge.proofs.zhitomrak_say_wind.Goals as goal
 pub returns-then-refusal-ne0 : goal.returns-then-refusal-ne0
 returns-then-refusal-ne0 c =
     let q = c.args in
-    put_as (is_refused q.told.refusal _ c.if-refusal-ne0.true) c.?Put-refused.ensures
+    put_as (is_refused q.told.refusal _ c.if-refusal-ne0.true) c.put_refused.ensures
 
 pub returns : goal.returns
 returns c =

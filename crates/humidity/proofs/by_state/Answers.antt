@@ -18,7 +18,6 @@ use Rattle.humidity.proofs.VapourPressureLaws.{within}
 use Rattle.humidity.proofs.IceLaws.{warm}
 use Rattle.humidity.proofs.MoistureLaws.{too_warm}
 use Rattle.humidity.proofs.by_state.Goals as goal
-use Rattle.humidity.proofs.by_state.Goals.{After-number-k, In-Ice-1, In-Unknown-1, In-Water-1, Start}
 
 -- what was found is what the call promised of it
 frozen : (wet : ℤ) (r : OverIce) (e : VapourPressure) → r ≡ Entry e → IsOverIce wet r → Frozen wet e.0
@@ -52,59 +51,43 @@ module _ (dry wet p a : ℤ) (w : ℕ) (t : Tabled dry wet p a w) (r : OverIce) 
   no-doubtful-ice : (s : BulbState) → s ≡ Unknown → Decides s dry wet p a TooWarmForIce
   no-doubtful-ice s e = decides-of refl refl refl p Unknown s TooWarmForIce e (λ d near. too_warm Unknown dry wet p a d t.limits near refl above_zero)
 
-module _ (n : After-number-k) where
-  abbrev start : Start
-  start = n.before.before.before
-
 pub on_water-requires : goal.on_water-requires
 on_water-requires c =
-    let n = (goal.at.on_water-requires c).In-Water-1 in
-    tabled-of c.number-t.ensures.value c.number-u.ensures.value c.number-k.ensures.value _ _ (start n).requires
+    tabled-of c.number-t.ensures.value c.number-u.ensures.value c.number-k.ensures.value _ _ c.requires
 
 pub on_ice-requires : goal.on_ice-requires
 on_ice-requires c =
-    let i = c.before in
-    let n = (goal.at.on_ice-requires c).In-Ice-1 in
-    ice-of c.number-t.ensures.value c.number-u.ensures.value c.number-k.ensures.value _ (start n) args.w _ (start n).requires
-    (frozen (start n) args.wet.0.v c.saturation_over_ice.result c.in-Entry.i c.in-Entry.is c.saturation_over_ice.ensures)
+    ice-of c.number-t.ensures.value c.number-u.ensures.value c.number-k.ensures.value _ c.args.w _ c.requires
+    (frozen c.args.wet.0.v c.saturation_over_ice.result c.in-Entry.i c.in-Entry.is c.saturation_over_ice.ensures)
 
 pub in_doubt-requires : goal.in_doubt-requires
 in_doubt-requires c =
-    let i = c.before in
-    let n = (goal.at.in_doubt-requires c).In-Unknown-1 in
-    both_of c.number-t.ensures.value c.number-u.ensures.value c.number-k.ensures.value _ _ _ (start n).requires
-    (frozen (start n) args.wet.0.v c.saturation_over_ice-in-Unknown.result c.in-Entry-saturation_over_ice.i c.in-Entry-saturation_over_ice.is c.saturation_over_ice-in-Unknown.ensures)
+    both_of c.number-t.ensures.value c.number-u.ensures.value c.number-k.ensures.value _ _ _ c.requires
+    (frozen c.args.wet.0.v c.saturation_over_ice-in-Unknown.result c.in-Entry-saturation_over_ice.i c.in-Entry-saturation_over_ice.is c.saturation_over_ice-in-Unknown.ensures)
 
 pub returns-in-Water : goal.returns-in-Water
 returns-in-Water c =
-    let told = c.before in
     decides-of c.number-t.ensures.value c.number-u.ensures.value c.number-k.ensures.value _ Water _ c.on_water.result
     c.in-Water.is c.on_water.ensures
 
 pub returns-in-Entry : goal.returns-in-Entry
 returns-in-Entry c =
-    let told = c.before.before.before.before.before in
     decides-of c.number-t.ensures.value c.number-u.ensures.value c.number-k.ensures.value _ Ice _ c.on_ice.result
     c.in-Ice.is c.on_ice.ensures
 
 pub returns-in-OutsideIceTable : goal.returns-in-OutsideIceTable
 returns-in-OutsideIceTable c =
-    let ice = c.before.before in
-    let from = start (goal.at.returns-in-OutsideIceTable c).After-number-k in
-    let x = from.args in
-    no-ice x.dry.0.v x.wet.0.v x.pressure.0.v x.a.0.v x.w from.pre c.saturation_over_ice.result c.in-OutsideIceTable.is
+    let x = c.args in
+    no-ice x.dry.0.v x.wet.0.v x.pressure.0.v x.a.0.v x.w c.requires c.saturation_over_ice.result c.in-OutsideIceTable.is
     c.saturation_over_ice.ensures x.state c.in-Ice.is
 
 pub returns-in-Entry-saturation_over_ice : goal.returns-in-Entry-saturation_over_ice
 returns-in-Entry-saturation_over_ice c =
-    let told = c.before.before.before.before.before in
     decides-of c.number-t.ensures.value c.number-u.ensures.value c.number-k.ensures.value _ Unknown _ c.in_doubt.result
     c.in-Unknown.is c.in_doubt.ensures
 
 pub returns-in-OutsideIceTable-saturation_over_ice : goal.returns-in-OutsideIceTable-saturation_over_ice
 returns-in-OutsideIceTable-saturation_over_ice c =
-    let ice = c.before.before in
-    let from = start (goal.at.returns-in-OutsideIceTable-saturation_over_ice c).After-number-k in
-    let x = from.args in
-    no-doubtful-ice x.dry.0.v x.wet.0.v x.pressure.0.v x.a.0.v x.w from.pre c.saturation_over_ice-in-Unknown.result c.in-OutsideIceTable-saturation_over_ice.is
+    let x = c.args in
+    no-doubtful-ice x.dry.0.v x.wet.0.v x.pressure.0.v x.a.0.v x.w c.requires c.saturation_over_ice-in-Unknown.result c.in-OutsideIceTable-saturation_over_ice.is
     c.saturation_over_ice-in-Unknown.ensures x.state c.in-Unknown.is

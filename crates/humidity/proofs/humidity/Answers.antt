@@ -19,7 +19,7 @@ use Rattle.humidity.specs.Parts.{Decided}
 use Rattle.humidity.proofs.VapourPressureLaws.{within}
 use Rattle.humidity.proofs.MoistureLaws.{outside}
 use Rattle.humidity.proofs.humidity.Goals as goal
-use Rattle.humidity.proofs.humidity.Goals.{After-by_state, After-others_hold, Else-not-others_hold, In-Entries-2, Start}
+use Rattle.humidity.proofs.humidity.Goals.{After-by_state, After-others_hold}
 
 -- what was found is what the call promised of it
 entries : (dry wet : ℤ) (r : Saturations) (d w : VapourPressure) → r ≡ Entries d w → AreSaturations dry wet r → AreSaturations dry wet (Entries d w)
@@ -29,41 +29,20 @@ decided : (s : BulbState) (dry wet p a : ℤ) (d : ℕ) (r v : Vapour) → r ≡
 decided s dry wet p a d r v h is = rw h at is
 
 -- both bulbs stand in the table over water
-module _ (c : After-others_hold) where
-  abbrev found : In-Entries-2
-  found = c.before.before.before
+stand : (c : After-others_hold) → AreSaturations c.args.dry.0.v c.args.wet.0.v (Entries c.in-Entries.d c.in-Entries.w)
+stand c = entries c.args.dry.0.v c.args.wet.0.v c.saturation.result c.in-Entries.d c.in-Entries.w c.in-Entries.is c.saturation.ensures
 
-  abbrev start : Start
-  start = found.before.before.before
-
-  stand : let x = start.args in AreSaturations x.dry.0.v x.wet.0.v (Entries found.in-Entries.d found.in-Entries.w)
-  stand =
-      let x = start.args in
-      entries x.dry.0.v x.wet.0.v found.saturation.result found.in-Entries.d found.in-Entries.w found.in-Entries.is found.saturation.ensures
-
-  limits : {b : Bool} → c.others_hold.result ≡ b → let x = start.args in within_limits x.dry.0.v x.wet.0.v x.pressure.0.v x.a.0.v ≡ b
-  limits e =
-      rw stand.0 (ap (λ (z : ℤ). inside recorded_pressure start.args.pressure.0.v && inside psychrometer z) (sym c.number.ensures.value) ∙ sym c.others_hold.ensures ∙ e)
-
--- and the others within their limits
-module _ (c : Else-not-others_hold) where
-  abbrev from : Start
-  from = start c.before
-
-  abbrev dry-entry : ℕ
-  dry-entry = (found c.before).d-1.given.0.0.0
-
-  inside-all : let x = from.args in within_limits x.dry.0.v x.wet.0.v x.pressure.0.v x.a.0.v ≡ true
-  inside-all = limits c.before (not-false _ c.if-not-others_hold.false-raw)
+limits : (c : After-others_hold) {b : Bool} → c.others_hold.result ≡ b → let x = c.args in within_limits x.dry.0.v x.wet.0.v x.pressure.0.v x.a.0.v ≡ b
+limits c e =
+    rw (stand c).0 (ap (λ (z : ℤ). inside recorded_pressure c.args.pressure.0.v && inside psychrometer z) (sym c.number.ensures.value) ∙ sym c.others_hold.ensures ∙ e)
 
 -- what the wet bulb came to
-module _ (c : After-by_state) where
-  wet-bulb : (v : Vapour) → c.by_state.result ≡ v → let x = (from c.before).args in
-      Decided x.state x.dry.0.v x.wet.0.v x.pressure.0.v x.a.0.v (dry-entry c.before) v
-  wet-bulb v h =
-      let x = (from c.before).args in
-      decided x.state x.dry.0.v x.wet.0.v x.pressure.0.v x.a.0.v (dry-entry c.before) c.by_state.result v h
-      (c.by_state.ensures (dry-entry c.before) (stand c.before.before).1)
+wet-bulb : (c : After-by_state) (v : Vapour) → c.by_state.result ≡ v → let x = c.args in
+    Decided x.state x.dry.0.v x.wet.0.v x.pressure.0.v x.a.0.v c.in-Entries.d.0 v
+wet-bulb c v h =
+    let x = c.args in
+    decided x.state x.dry.0.v x.wet.0.v x.pressure.0.v x.a.0.v c.in-Entries.d.0 c.by_state.result v h
+    (c.by_state.ensures c.in-Entries.d.0 (entries x.dry.0.v x.wet.0.v c.saturation.result c.in-Entries.d c.in-Entries.w c.in-Entries.is c.saturation.ensures).1)
 
 pub returns-in_default : goal.returns-in_default
 returns-in_default c =
@@ -73,18 +52,20 @@ returns-in_default c =
 
 pub returns-then-not-others_hold : goal.returns-then-not-others_hold
 returns-then-not-others_hold c =
-    let x = (start (goal.at.returns-then-not-others_hold c).After-others_hold).args in
+    let x = c.args in
     outside x.state x.dry.0.v x.wet.0.v x.pressure.0.v x.a.0.v (limits (goal.at.returns-then-not-others_hold c).After-others_hold (not-true _ c.if-not-others_hold.true-raw))
 
 pub by_state-requires : goal.by_state-requires
-by_state-requires c = record { limits = inside-all (goal.at.by_state-requires c).Else-not-others_hold; near_wet = (stand (goal.at.by_state-requires c).After-others_hold).2 }
+by_state-requires c =
+    let at = (goal.at.by_state-requires c).After-others_hold in
+    record { limits = limits at (not-false _ c.if-not-others_hold.false-raw); near_wet = (stand at).2 }
 
 pub by_vapour-requires : goal.by_vapour-requires
 by_vapour-requires c =
-    let at = (goal.at.by_vapour-requires c).Else-not-others_hold in
-    let x = (from at).args in
-    (entry_range x.dry.0.v (dry-entry at)
-    (within x.dry.0.v x.wet.0.v x.pressure.0.v x.a.0.v (inside-all at)).in_dry (stand (goal.at.by_vapour-requires c).After-others_hold).1).1
+    let at = (goal.at.by_vapour-requires c).After-others_hold in
+    let x = c.args in
+    (entry_range x.dry.0.v c.in-Entries.d.0
+    (within x.dry.0.v x.wet.0.v x.pressure.0.v x.a.0.v (limits at (not-false _ c.if-not-others_hold.false-raw))).in_dry (stand at).1).1
 
 pub returns-in-Worked : goal.returns-in-Worked
 returns-in-Worked c =

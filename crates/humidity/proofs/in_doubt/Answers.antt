@@ -15,7 +15,7 @@ use Rattle.humidity.proofs.VapourPressureLaws.{Within, within, sized}
 use Rattle.humidity.proofs.MoistureLaws.{no_doubt, by_vapour_lem}
 use Rattle.humidity.proofs.IceLaws.{ice_range, cold}
 use Rattle.humidity.proofs.in_doubt.Goals as goal
-use Rattle.humidity.proofs.in_doubt.Goals.{After-over, After-over-2, Start}
+use Rattle.humidity.proofs.in_doubt.Goals.{Start}
 
 module _ (c : Start) where
   in-limits : let x = c.args in Within x.dry.v x.wet.v x.pressure.v x.a.v
@@ -35,7 +35,7 @@ module _ (c : Start) where
       refl (cold x.wet.v x.i c.requires.1) doubt m (subst (λ (z : ℤ). IsByVapour z d m) h is)
 
 pub returns-then-not-leaves_doubt : goal.returns-then-not-leaves_doubt
-returns-then-not-leaves_doubt c =
+returns-then-not-leaves_doubt c d near =
     let x = c.args in
     let t = c.requires.0 in
     no_doubt Unknown x.dry.v x.wet.v x.pressure.v x.a.v d t.limits near x.w x.i (t.near_wet, c.requires.1.near)
@@ -52,9 +52,7 @@ over-requires c = (omega arith, omega (arith, c.exact-over_ice.ensures.size))
 
 pub returns-then-at_most : goal.returns-then-at_most
 unfolding vapour_pressure
-returns-then-at_most c =
-    let over = (goal.at.returns-then-at_most c).After-over in
-    let ordered = over.before.before in
+returns-then-at_most c d near m is =
     let start = (goal.at.returns-then-at_most c).Start in
     decide start (ap not (sym c.leaves_doubt.ensures) ∙ c.if-not-leaves_doubt.false-raw) c.over.result.v d m
     (rw (sym c.at_most.ensures ∙ c.if-at_most.true) (c.over.ensures.value ∙ ap (λ (z : ℤ). rounded z parts) c.exact-over_ice.ensures.value))
@@ -77,11 +75,7 @@ over-requires-2 c = (omega arith, omega (arith, c.plus.ensures.size, c.exact-ove
 
 pub returns : goal.returns
 unfolding vapour_pressure
-returns c =
-    let over = (goal.at.returns c).After-over-2 in
-    let mean = over.before in
-    let water = mean.before in
-    let ordered = water.before.before.before in
+returns c d near m is =
     let start = (goal.at.returns c).Start in
     let x = c.args in
     decide start (ap not (sym c.leaves_doubt.ensures) ∙ c.if-not-leaves_doubt.false-raw) c.over-2.result.v d m

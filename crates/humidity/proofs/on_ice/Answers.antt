@@ -22,8 +22,7 @@ over-requires c = (omega arith, omega (arith, c.exact-over_ice.ensures.size))
 
 pub returns : goal.returns
 unfolding vapour_pressure
-returns c =
-    let worked = c.before in
+returns c d near m is =
     let x = c.args in
     by_vapour_lem Ice x.dry.v x.wet.v x.pressure.v x.a.v d c.requires.0 near 0 x.i c.requires.1.near
     refl (cold x.wet.v x.i c.requires.1) refl m

@@ -21,7 +21,7 @@ module _ (c : Start) where
   sizes = let x = c.args in sized x.dry.v x.wet.v x.pressure.v x.a.v in-limits
 
 pub returns-then-not-at_most : goal.returns-then-not-at_most
-returns-then-not-at_most c =
+returns-then-not-at_most c d near =
     let x = c.args in
     above Water x.dry.v x.wet.v x.pressure.v x.a.v d c.requires.limits near x.w 0 c.requires.near_wet
     (ap not (sym c.at_most.ensures) ∙ c.if-not-at_most.true-raw)
@@ -40,9 +40,7 @@ over-requires c = (omega arith, omega (arith, c.exact-over_water.ensures.size))
 
 pub returns : goal.returns
 unfolding vapour_pressure
-returns c =
-    let worked = c.before in
-    let tested = worked.before.before in
+returns c d near m is =
     let x = c.args in
     by_vapour_lem Water x.dry.v x.wet.v x.pressure.v x.a.v d c.requires.limits near x.w 0 c.requires.near_wet
     (ap not (sym c.at_most.ensures) ∙ c.if-not-at_most.false-raw) refl refl m

@@ -20,7 +20,7 @@ returns-then-not-is_store c =
 pub returns-then-channel-ge6 : goal.returns-then-channel-ge6
 returns-then-channel-ge6 c =
     let a = c.args in
-    let is = stretch_nowhere a.store.now a.channel (sym c.?is_a_store.ensures ∙ not-false _ c.if-not-is_store.false-raw) a.first (length a.minutes.now) c.if-channel-ge6.true in
+    let is = stretch_nowhere a.store.now a.channel (sym c.is_store.ensures ∙ not-false _ c.if-not-is_store.false-raw) a.first (length a.minutes.now) c.if-channel-ge6.true in
     (record { answer = sym (ap numbered_in is); bytes = sym (ap (marked_by a.minutes.now) is) }, refl)
 
 pub loop-i-init : goal.loop-i-init
@@ -48,6 +48,6 @@ returns c =
     let l = c.loop-i in
     let a = c.args in
     let n = length a.minutes.now in
-    let is = stretch_is a.store.now a.channel (sym c.?is_a_store.ensures ∙ not-false _ c.if-not-is_store.false-raw) c.if-channel-ge6.false a.first n in
+    let is = stretch_is a.store.now a.channel (sym c.is_store.ensures ∙ not-false _ c.if-not-is_store.false-raw) c.if-channel-ge6.false a.first n in
     let all = listed_by (marked a.store.now a.channel) 0 l.minutes a.first n l.invariant.1 (λ k h. l.invariant.2 k (omega arith)) in
     (record { answer = sym (ap numbered_in is); bytes = all ∙ sym (ap (marked_by a.minutes.now) is) }, refl)

@@ -12,35 +12,22 @@ use Rattle.pressure.specs.Pressure.{barometer_of, in_unit, reading_as}
 use Rattle.pressure.proofs.SizeLaws.{scale_stored, certified_stored}
 use Rattle.pressure.proofs.AnswerLaws.{none_there, worked, sea_unit, sea_limits, sea_outside, sea_given}
 use Rattle.pressure.proofs.sea_level_pressure.Goals as goal
-use Rattle.pressure.proofs.sea_level_pressure.Goals.{After-tenths_in-tenths, After-unit-unit, Else-not-holds, Else-not-in_unit}
+use Rattle.pressure.proofs.sea_level_pressure.Goals.{After-tenths_in-tenths}
 
 -- a reading in the barometer's unit at a temperature within its limits, as both were tested
-module _ (c : After-tenths_in-tenths) where
-  abbrev second : Else-not-holds
-  second = c.before
+in-unit : (c : After-tenths_in-tenths) → in_unit c.unit-unit.result (reading_as c.args.reading) ≡ true
+in-unit c = sym c.in_unit.ensures ∙ not-false _ c.if-not-in_unit.false-raw
 
-  abbrev first : Else-not-in_unit
-  first = second.before.before.before
-
-  abbrev read : After-unit-unit
-  read = first.before.before.before
-
-  in-unit : in_unit read.unit-unit.result (reading_as read.args.reading) ≡ true
-  in-unit = sym first.in_unit.ensures ∙ not-false _ first.if-not-in_unit.left
-
-  warmth : inside wheelhouse read.args.wheelhouse.0.v ≡ true
-  warmth = kept_inside wheelhouse second.holds.ensures second.number.ensures.value (not-false _ second.if-not-holds.left)
+warmth : (c : After-tenths_in-tenths) → inside wheelhouse c.args.wheelhouse.0.v ≡ true
+warmth c = kept_inside wheelhouse c.holds.ensures c.number.ensures.value (not-false _ c.if-not-holds.false-raw)
 
 pub returns-then-not-in_unit : goal.returns-then-not-in_unit
 returns-then-not-in_unit c =
-    let at = c.before.before.before in
     sea_unit (barometer_of c.args.store.now) c.args.reading c.unit-unit.ensures c.args.wheelhouse.0.v
     (sym c.in_unit.ensures ∙ not-true _ c.if-not-in_unit.true-raw)
 
 pub returns-then-not-holds : goal.returns-then-not-holds
 returns-then-not-holds c =
-    let first = c.before.before.before in
-    let at = first.before.before.before in
     sea_limits (barometer_of c.args.store.now) c.args.reading c.unit-unit.ensures c.args.wheelhouse.0.v
     (sym c.in_unit.ensures ∙ not-false _ c.if-not-in_unit.false-raw)
     (kept_inside wheelhouse c.holds.ensures c.number.ensures.value (not-true _ c.if-not-holds.true-raw))
@@ -48,28 +35,25 @@ returns-then-not-holds c =
 pub corrected-all-requires : goal.corrected-all-requires
 corrected-all-requires c =
     let at = (goal.at.corrected-all-requires c).After-tenths_in-tenths in
-    let start = (read at).before in
     let r = c.tenths_in-tenths.result.v in
-    let s = start.args.store.now in
+    let s = c.args.store.now in
     let w = worked (barometer_of s) r c.in-Value.is c.scale_correction.ensures in (
       certified_stored s r w.there,
       omega (arith, ap nat_abs w.is, scale_stored s r),
-      within_size (neg_ℤ (pos 400)) (pos 600) start.args.wheelhouse.0.v 600 (lit≤ tt) (lit≤ tt) (warmth at),
+      within_size (neg_ℤ (pos 400)) (pos 600) c.args.wheelhouse.0.v 600 (lit≤ tt) (lit≤ tt) (warmth at),
     )
 
 pub returns-in-NoneThere : goal.returns-in-NoneThere
 returns-in-NoneThere c =
     let at = (goal.at.returns-in-NoneThere c).After-tenths_in-tenths in
-    let start = (read at).before in
-    let s = barometer_of start.args.store.now in
-    sea_outside s start.args.reading (read at).unit-unit.ensures c.tenths_in-tenths.ensures start.args.wheelhouse.0.v (in-unit at) (warmth at)
+    let s = barometer_of c.args.store.now in
+    sea_outside s c.args.reading c.unit-unit.ensures c.tenths_in-tenths.ensures c.args.wheelhouse.0.v (in-unit at) (warmth at)
     (none_there s c.tenths_in-tenths.result.v c.in-NoneThere.is c.scale_correction.ensures)
 
 pub returns-in-Value : goal.returns-in-Value
 returns-in-Value c =
     let at = (goal.at.returns-in-Value c).After-tenths_in-tenths in
-    let start = (read at).before in
-    let s = barometer_of start.args.store.now in
-    sea_given s start.args.reading (read at).unit-unit.ensures c.tenths_in-tenths.ensures start.args.wheelhouse.0.v (in-unit at) (warmth at)
+    let s = barometer_of c.args.store.now in
+    sea_given s c.args.reading c.unit-unit.ensures c.tenths_in-tenths.ensures c.args.wheelhouse.0.v (in-unit at) (warmth at)
     (worked s c.tenths_in-tenths.result.v c.in-Value.is c.scale_correction.ensures)
     c.corrected-all.ensures.value c.rounded_once.ensures

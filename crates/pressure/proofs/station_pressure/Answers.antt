@@ -10,7 +10,6 @@ use Rattle.pressure.proofs.station_pressure.Goals as goal
 
 pub returns-then-not-in_unit : goal.returns-then-not-in_unit
 returns-then-not-in_unit c =
-    let at = c.before.before in
     station_unit (barometer_of c.args.store.now) c.args.reading c.unit-unit.ensures
     (sym c.in_unit.ensures ∙ not-true _ c.if-not-in_unit.true-raw)
 
@@ -30,20 +29,12 @@ in_hectopascals-requires c =
 
 pub returns-in-NoneThere : goal.returns-in-NoneThere
 returns-in-NoneThere c =
-    let scaled = c.before.before in
-    let at = scaled.before in
-    let one = at.before in
-    let read = one.before.before in
     let b = barometer_of c.args.store.now in
     station_outside b c.args.reading c.unit-unit.ensures c.tenths_in-tenths.ensures (sym c.in_unit.ensures ∙ not-false _ c.if-not-in_unit.false-raw)
     (none_there b c.tenths_in-tenths.result.v c.in-NoneThere.is c.scale_correction.ensures)
 
 pub returns-in-Value : goal.returns-in-Value
 returns-in-Value c =
-    let scaled = c.before.before.before.before.before in
-    let at = scaled.before in
-    let one = at.before in
-    let read = one.before.before in
     let b = barometer_of c.args.store.now in
     station_given b c.args.reading c.unit-unit.ensures c.tenths_in-tenths.ensures (sym c.in_unit.ensures ∙ not-false _ c.if-not-in_unit.false-raw)
     (worked b c.tenths_in-tenths.result.v c.in-Value.is c.scale_correction.ensures)

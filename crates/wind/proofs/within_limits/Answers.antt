@@ -20,6 +20,5 @@ returns-then-not-is_wind_speed c =
 pub returns : goal.returns
 unfolding within_limits
 returns c =
-    let third = c.before.before in
     rw (sym c.is_direction.ensures ∙ not-false _ c.if-not-is_direction.false-raw, sym c.is_ship_speed.ensures ∙ not-false _ c.if-not-is_ship_speed.false-raw, sym c.is_wind_speed.ensures ∙ not-false _ c.if-not-is_wind_speed.false-raw)
     c.is_direction-2.ensures
