@@ -1,7 +1,7 @@
 // A watch with a gap: barometer and thermometer at minutes 100 and 280 only, then at 400.
 #![tactic(auto)]
 
-ghost use Rattle.std.specs.Prelude.{◌≡◌, not, [], ℕ};
+ghost use Rattle.std.specs.Prelude.{◌≡◌, true, not, [], ℕ};
 ghost use Rattle.settings.specs.Settings.{checked_as};
 ghost use Rattle.store.specs.Block.{is_given, heard_as, recall_of};
 ghost use Rattle.cell.specs.Cells.{recalled_as, is_present};
@@ -18,6 +18,13 @@ use settings::{
     SeaLevelDifference, Settings, TemperatureCoefficient,
 };
 use store::Hearing;
+
+// What has to hold, which each caller proves.
+fn expect(holds: bool)
+    requires { holds ≡ true }
+{
+    prove!(holds);
+}
 
 // Whether the settings were good.
 fn is_good(c: Checked) -> bool
@@ -162,7 +169,7 @@ fn settings() -> Settings
 fn open(store: &mut Store)
     ensures { Remembers store.new ship [] }
 {
-    check::expect(is_good(store::open(store, settings())));
+    expect(is_good(store::open(store, settings())));
 }
 
 // Hears both instruments at minute 100: 1013.2 hPa and 12.5 °C.
@@ -172,8 +179,8 @@ fn hear_at_100(store: &mut Store)
 {
     let barometer: [u8; 16] = [0, 0, 0, 0, 100, 0, 0, 0, 205, 76, 125, 68, 0, 0, 0, 0];
     let thermometer: [u8; 16] = [1, 0, 0, 0, 100, 0, 0, 0, 0, 0, 72, 65, 0, 0, 0, 0];
-    check::expect(is_heard(store::hear(store, &barometer)));
-    check::expect(is_heard(store::hear(store, &thermometer)));
+    expect(is_heard(store::hear(store, &barometer)));
+    expect(is_heard(store::hear(store, &thermometer)));
 }
 
 // And at minute 280: 1009.7 hPa and 13.0 °C.
@@ -183,8 +190,8 @@ fn hear_at_280(store: &mut Store)
 {
     let barometer: [u8; 16] = [0, 0, 0, 0, 24, 1, 0, 0, 205, 108, 124, 68, 0, 0, 0, 0];
     let thermometer: [u8; 16] = [1, 0, 0, 0, 24, 1, 0, 0, 0, 0, 80, 65, 0, 0, 0, 0];
-    check::expect(is_heard(store::hear(store, &barometer)));
-    check::expect(is_heard(store::hear(store, &thermometer)));
+    expect(is_heard(store::hear(store, &barometer)));
+    expect(is_heard(store::hear(store, &thermometer)));
 }
 
 // And at minute 400: 1008.4 hPa and 13.5 °C.
@@ -194,32 +201,32 @@ fn hear_at_400(store: &mut Store)
 {
     let barometer: [u8; 16] = [0, 0, 0, 0, 144, 1, 0, 0, 154, 25, 124, 68, 0, 0, 0, 0];
     let thermometer: [u8; 16] = [1, 0, 0, 0, 144, 1, 0, 0, 0, 0, 88, 65, 0, 0, 0, 0];
-    check::expect(is_heard(store::hear(store, &barometer)));
-    check::expect(is_heard(store::hear(store, &thermometer)));
+    expect(is_heard(store::hear(store, &barometer)));
+    expect(is_heard(store::hear(store, &thermometer)));
 }
 
 // At minute 280 both minutes heard are kept, and all 179 between them are absent.
 fn ask_at_280(store: &Store)
     requires { Remembers store.now ship to_280 }
 {
-    check::expect(store::missing_minutes(store, 0, 280) == 179);
-    check::expect(store::missing_minutes(store, 1, 280) == 179);
-    check::expect(pressure_at(store, 100) == 10132);
-    check::expect(pressure_at(store, 280) == 10097);
-    check::expect(temperature_at(store, 100) == 125);
-    check::expect(temperature_at(store, 280) == 130);
+    expect(store::missing_minutes(store, 0, 280) == 179);
+    expect(store::missing_minutes(store, 1, 280) == 179);
+    expect(pressure_at(store, 100) == 10132);
+    expect(pressure_at(store, 280) == 10097);
+    expect(temperature_at(store, 100) == 125);
+    expect(temperature_at(store, 280) == 130);
 }
 
 // At minute 400 minute 220 is absent, minute 280 is still kept, and minute 100 is gone.
 fn ask_at_400(store: &Store)
     requires { Remembers store.now ship to_400 }
 {
-    check::expect(is_missing_at(store, 0, 220));
-    check::expect(is_missing_at(store, 1, 220));
-    check::expect(is_missing_at(store, 0, 100));
-    check::expect(is_missing_at(store, 1, 100));
-    check::expect(pressure_at(store, 280) == 10097);
-    check::expect(temperature_at(store, 280) == 130);
+    expect(is_missing_at(store, 0, 220));
+    expect(is_missing_at(store, 1, 220));
+    expect(is_missing_at(store, 0, 100));
+    expect(is_missing_at(store, 1, 100));
+    expect(pressure_at(store, 280) == 10097);
+    expect(temperature_at(store, 280) == 130);
 }
 
 // "Barometer and thermometer at 100 and 280 only: tendency at 280, 179 absent. Then both at 400: minute 220 is absent."

@@ -8,7 +8,6 @@ use Rattle.bridge.proofs.zhitomrak_place.Goals as goal
 pub returns : goal.returns
 returns c =
     λ rule ruled.
-    let placed = c.before.before.before in
     let q = c.args in
     let it = subst (λ (r : Record). Leaves (placing rule r q.size q.buffer.now) q.buffer.now c.place.new.file c.place.result) c.record_at.ensures (c.place.ensures rule ruled) in
     record { answer = c.place_told.ensures ∙ ap place_in it.answer; bytes = it.bytes }

@@ -12,7 +12,7 @@ returns-then-settings-gt1 c = record { answer = rw (lt-ltb _ _ c.if-settings-gt1
 
 pub returns : goal.returns
 returns c =
-    let it = (goal.at.returns c) After-open.«open».ensures in
+    let it = c.open.ensures in
     let g = c.settings_in.ensures in
     let unit = le-ltb _ _ c.if-settings-gt1.false in
     record {
