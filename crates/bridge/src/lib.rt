@@ -28,7 +28,7 @@ use told::{HumidityTold, PressureTold, Refusal, TendencyTold, WindTold};
 
 // Puts the settings that a store was opened with into the lent sheet: 0; or 255, and the sheet stays as it was.
 pub fn zhitomrak_settings_of(store: &Store, settings: &mut Sheet) -> u32
-    ensures { SettingsAs store.now store.now settings.old settings.new result }
+    ensures { SettingsAs store.entry.now store.exit.now settings.old settings.new result }
 {
     if !block::is_store(store) {
         return NO_STORE;
@@ -52,21 +52,21 @@ pub fn zhitomrak_hear_all(store: &mut Store, bytes: &[u8], counts: &mut [u64; NU
 
 // The newest minute of a channel; or 2, or 11 where nothing is heard of it yet.
 pub fn zhitomrak_newest(store: &Store, channel: u32) -> NewestTold
-    ensures { (result ≡ newest_in (newest_of store.now channel)) × (store.now ≡ store.now) }
+    ensures { (result ≡ newest_in (newest_of store.now channel)) × (store.exit.now ≡ store.entry.now) }
 {
     kept::newest(store, channel)
 }
 
 // The reading that is kept of a channel's minute; or 2, 5 or 11.
 pub fn zhitomrak_reading(store: &Store, channel: u32, minute: u32) -> ReadingTold
-    ensures { (result ≡ reading_in (reading_of store.now channel minute)) × (store.now ≡ store.now) }
+    ensures { (result ≡ reading_in (reading_of store.now channel minute)) × (store.exit.now ≡ store.entry.now) }
 {
     kept::reading(store, channel, minute)
 }
 
 // Which minutes of a stretch have a reading: 1, else 0, in a byte for each from the first on. Or 2, and every byte stays.
 pub fn zhitomrak_stretch(store: &Store, channel: u32, first: u32, minutes: &mut [u8]) -> u32
-    ensures { Marks store.now channel first minutes.old minutes.new result × (store.now ≡ store.now) }
+    ensures { Marks store.now channel first minutes.old minutes.new result × (store.exit.now ≡ store.entry.now) }
 {
     kept::stretch(store, channel, first, minutes)
 }
@@ -75,7 +75,7 @@ pub fn zhitomrak_stretch(store: &Store, channel: u32, first: u32, minutes: &mut 
 
 // Asks the question of a kind, and puts its answer's record into the lent words; or the question's refusal, or 16, and the words stay.
 pub fn zhitomrak_record_of(store: &Store, kind: u32, minute: u32, words: &mut Words) -> Refusal
-    ensures { RecordedBy kind store.now minute words.old words.new result × (store.now ≡ store.now) }
+    ensures { RecordedBy kind store.now minute words.old words.new result × (store.exit.now ≡ store.entry.now) }
 {
     entered::record(store, kind, minute, words)
 }

@@ -25,7 +25,7 @@ use told::{HumidityTold, PressureTold, Refusal, TendencyTold, WindTold};
 // Puts the settings that a store was opened with into the lent sheet: 0; or 255, and the sheet stays as it was.
 #[unsafe(no_mangle)]
 pub extern "C" fn zhitomrak_settings_of(store: &Store, settings: &mut Sheet) -> u32
-    ensures { SettingsAs store.now store.now settings.old settings.new result }
+    ensures { SettingsAs store.entry.now store.exit.now settings.old settings.new result }
 {
     bridge::zhitomrak_settings_of(store, settings)
 }
@@ -44,7 +44,7 @@ pub extern "C" fn zhitomrak_hear_all(store: &mut Store, bytes: &[u8], counts: &m
 // The newest minute of a channel; or 2, or 11 where nothing is heard of it yet.
 #[unsafe(no_mangle)]
 pub extern "C" fn zhitomrak_newest(store: &Store, channel: u32) -> NewestTold
-    ensures { (result ≡ newest_in (newest_of store.now channel)) × (store.now ≡ store.now) }
+    ensures { (result ≡ newest_in (newest_of store.now channel)) × (store.exit.now ≡ store.entry.now) }
 {
     bridge::zhitomrak_newest(store, channel)
 }
@@ -52,7 +52,7 @@ pub extern "C" fn zhitomrak_newest(store: &Store, channel: u32) -> NewestTold
 // The reading that is kept of a channel's minute; or 2, 5 or 11.
 #[unsafe(no_mangle)]
 pub extern "C" fn zhitomrak_reading(store: &Store, channel: u32, minute: u32) -> ReadingTold
-    ensures { (result ≡ reading_in (reading_of store.now channel minute)) × (store.now ≡ store.now) }
+    ensures { (result ≡ reading_in (reading_of store.now channel minute)) × (store.exit.now ≡ store.entry.now) }
 {
     bridge::zhitomrak_reading(store, channel, minute)
 }
@@ -65,7 +65,7 @@ pub extern "C" fn zhitomrak_stretch(
     first: u32,
     minutes: &mut [u8],
 ) -> u32
-    ensures { Marks store.now channel first minutes.old minutes.new result × (store.now ≡ store.now) }
+    ensures { Marks store.now channel first minutes.old minutes.new result × (store.exit.now ≡ store.entry.now) }
 {
     bridge::zhitomrak_stretch(store, channel, first, minutes)
 }
@@ -80,7 +80,7 @@ pub extern "C" fn zhitomrak_record_of(
     minute: u32,
     words: &mut Words,
 ) -> Refusal
-    ensures { RecordedBy kind store.now minute words.old words.new result × (store.now ≡ store.now) }
+    ensures { RecordedBy kind store.now minute words.old words.new result × (store.exit.now ≡ store.entry.now) }
 {
     bridge::zhitomrak_record_of(store, kind, minute, words)
 }

@@ -43,7 +43,7 @@ fn lay(words: &mut Words, entry: Entry, refusal: Refusal) -> Refusal
 }
 
 fn pressure(store: &Store, minute: u32, words: &mut Words) -> Refusal
-    ensures { RecordedAs asked.pressure store.now minute words.old words.new result × (store.now ≡ store.now) }
+    ensures { RecordedAs asked.pressure store.now minute words.old words.new result × (store.exit.now ≡ store.entry.now) }
 {
     let a = station::pressure(store, minute);
     let told = told::pressure_told(a);
@@ -52,7 +52,7 @@ fn pressure(store: &Store, minute: u32, words: &mut Words) -> Refusal
 }
 
 fn tendency(store: &Store, minute: u32, words: &mut Words) -> Refusal
-    ensures { RecordedAs asked.tendency store.now minute words.old words.new result × (store.now ≡ store.now) }
+    ensures { RecordedAs asked.tendency store.now minute words.old words.new result × (store.exit.now ≡ store.entry.now) }
 {
     let a = station::tendency(store, minute);
     let told = told::tendency_told(a);
@@ -61,7 +61,7 @@ fn tendency(store: &Store, minute: u32, words: &mut Words) -> Refusal
 }
 
 fn wind(store: &Store, minute: u32, words: &mut Words) -> Refusal
-    ensures { RecordedAs asked.wind store.now minute words.old words.new result × (store.now ≡ store.now) }
+    ensures { RecordedAs asked.wind store.now minute words.old words.new result × (store.exit.now ≡ store.entry.now) }
 {
     let a = station::wind(store, minute);
     let told = told::wind_told(a);
@@ -70,7 +70,7 @@ fn wind(store: &Store, minute: u32, words: &mut Words) -> Refusal
 }
 
 fn humidity(store: &Store, minute: u32, words: &mut Words) -> Refusal
-    ensures { RecordedAs asked.humidity store.now minute words.old words.new result × (store.now ≡ store.now) }
+    ensures { RecordedAs asked.humidity store.now minute words.old words.new result × (store.exit.now ≡ store.entry.now) }
 {
     let a = station::humidity(store, minute);
     let told = told::humidity_told(a);
@@ -80,7 +80,7 @@ fn humidity(store: &Store, minute: u32, words: &mut Words) -> Refusal
 
 // Asks the question of a kind, 1 to 4, and lays its record into the lent words; or the question's refusal, or 16, and the words stay.
 pub fn record(store: &Store, kind: u32, minute: u32, words: &mut Words) -> Refusal
-    ensures { RecordedBy kind store.now minute words.old words.new result × (store.now ≡ store.now) }
+    ensures { RecordedBy kind store.now minute words.old words.new result × (store.exit.now ≡ store.entry.now) }
 {
     if kind == 1 {
         return pressure(store, minute, words);

@@ -37,7 +37,7 @@ pub struct ReadingTold {
 
 // The newest minute of a channel; refusals 2, and 11 where nothing is heard of it yet.
 pub fn newest(store: &Store, channel: u32) -> NewestTold
-    ensures { (result ≡ newest_in (newest_of store.now channel)) × (store.now ≡ store.now) }
+    ensures { (result ≡ newest_in (newest_of store.now channel)) × (store.exit.now ≡ store.entry.now) }
 {
     if !block::is_store(store) {
         return NewestTold {
@@ -125,7 +125,7 @@ fn figures_of(r: Reading) -> ReadingTold
 
 // What is kept of a channel's minute; refusals 2, 5 and 11.
 pub fn reading(store: &Store, channel: u32, minute: u32) -> ReadingTold
-    ensures { (result ≡ reading_in (reading_of store.now channel minute)) × (store.now ≡ store.now) }
+    ensures { (result ≡ reading_in (reading_of store.now channel minute)) × (store.exit.now ≡ store.entry.now) }
 {
     if !block::is_store(store) {
         return refused(NO_STORE, 0, 0);
@@ -157,7 +157,7 @@ fn mark(store: &Store, channel: u32, minute: u64) -> u8
 
 // Says of as many minutes as bytes are lent, from the first on, which have a reading: 1, else 0. Or refusal 2, and every byte stays.
 pub fn stretch(store: &Store, channel: u32, first: u32, minutes: &mut [u8]) -> u32
-    ensures { Marks store.now channel first minutes.old minutes.new result × (store.now ≡ store.now) }
+    ensures { Marks store.now channel first minutes.old minutes.new result × (store.exit.now ≡ store.entry.now) }
 {
     if !block::is_store(store) {
         return NO_STORE;

@@ -184,7 +184,7 @@ fn sea_level_at(store: &Store, minute: u32) -> AtMinute
 
 // The pressure at sea level.
 pub fn pressure(store: &Store, minute: u32) -> PressureAnswer
-    ensures { TellsOf asked.pressure store.now minute result × (store.now ≡ store.now) }
+    ensures { TellsOf asked.pressure store.now minute result × (store.exit.now ≡ store.entry.now) }
 {
     if !block::is_store(store) {
         return PressureAnswer::Refused(QuestionRefusal::NoStore);
@@ -205,7 +205,7 @@ pub fn pressure(store: &Store, minute: u32) -> PressureAnswer
 
 // Its change since three hours before, and how many barometer minutes between are absent.
 pub fn tendency(store: &Store, minute: u32) -> TendencyAnswer
-    ensures { TellsOf asked.tendency store.now minute result × (store.now ≡ store.now) }
+    ensures { TellsOf asked.tendency store.now minute result × (store.exit.now ≡ store.entry.now) }
 {
     if !block::is_store(store) {
         return TendencyAnswer::Refused(QuestionRefusal::NoStore);
@@ -243,7 +243,7 @@ pub fn tendency(store: &Store, minute: u32) -> TendencyAnswer
 
 // The true wind.
 pub fn wind(store: &Store, minute: u32) -> WindAnswer
-    ensures { TellsOf asked.wind store.now minute result × (store.now ≡ store.now) }
+    ensures { TellsOf asked.wind store.now minute result × (store.exit.now ≡ store.entry.now) }
 {
     if !block::is_store(store) {
         return WindAnswer::Refused(QuestionRefusal::NoStore);
@@ -273,7 +273,7 @@ pub fn wind(store: &Store, minute: u32) -> WindAnswer
 
 // Vapour pressure, saturation, deficit, relative humidity and dew point.
 pub fn humidity(store: &Store, minute: u32) -> HumidityAnswer
-    ensures { TellsOf asked.humidity store.now minute result × (store.now ≡ store.now) }
+    ensures { TellsOf asked.humidity store.now minute result × (store.exit.now ≡ store.entry.now) }
 {
     if !block::is_store(store) {
         return HumidityAnswer::Refused(QuestionRefusal::NoStore);

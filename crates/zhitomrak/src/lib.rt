@@ -62,7 +62,7 @@ pub fn zhitomrak_note(store: &mut Store, note: Note) -> NoteTold
 
 // The pressure at sea level at a minute, in tenths of hPa; refusals 5, 11 and 12.
 pub fn zhitomrak_pressure(store: &Store, minute: u32) -> PressureTold
-    ensures { AnsweredAs asked.pressure store.now store.now minute result }
+    ensures { AnsweredAs asked.pressure store.entry.now store.exit.now minute result }
 {
     told::pressure_told(station::pressure(store, minute))
 }
@@ -70,14 +70,14 @@ pub fn zhitomrak_pressure(store: &Store, minute: u32) -> PressureTold
 // The change of that pressure in three hours, in tenths of hPa, and how many of the 179 barometer minutes between are absent;
 // refusals 5, 14, 11 and 12.
 pub fn zhitomrak_tendency(store: &Store, minute: u32) -> TendencyTold
-    ensures { AnsweredAs asked.tendency store.now store.now minute result }
+    ensures { AnsweredAs asked.tendency store.entry.now store.exit.now minute result }
 {
     told::tendency_told(station::tendency(store, minute))
 }
 
 // The true wind at a minute: speed in tenths of m/s, and the direction it comes from, 1 to 360 or 0 in a calm; refusals 5 and 11.
 pub fn zhitomrak_wind(store: &Store, minute: u32) -> WindTold
-    ensures { AnsweredAs asked.wind store.now store.now minute result }
+    ensures { AnsweredAs asked.wind store.entry.now store.exit.now minute result }
 {
     told::wind_told(station::wind(store, minute))
 }
@@ -85,7 +85,7 @@ pub fn zhitomrak_wind(store: &Store, minute: u32) -> WindTold
 // Humidity at a minute: vapour pressure, saturation and deficit in hundredths of hPa, relative humidity in percent, dew point in
 // tenths of °C; refusals 5, 11, 12, 13, 20, 21, 22 and 15. (7 only of a block that has a store's mark and that no opening made.)
 pub fn zhitomrak_humidity(store: &Store, minute: u32) -> HumidityTold
-    ensures { AnsweredAs asked.humidity store.now store.now minute result }
+    ensures { AnsweredAs asked.humidity store.entry.now store.exit.now minute result }
 {
     told::humidity_told(station::humidity(store, minute))
 }

@@ -58,7 +58,7 @@ pub extern "C" fn zhitomrak_note(store: &mut Store, note: Note) -> NoteTold
 // The pressure at sea level at a minute, in tenths of hPa; refusals 5, 11 and 12.
 #[unsafe(no_mangle)]
 pub extern "C" fn zhitomrak_pressure(store: &Store, minute: u32) -> PressureTold
-    ensures { AnsweredAs asked.pressure store.now store.now minute result }
+    ensures { AnsweredAs asked.pressure store.entry.now store.exit.now minute result }
 {
     zhitomrak::zhitomrak_pressure(store, minute)
 }
@@ -67,7 +67,7 @@ pub extern "C" fn zhitomrak_pressure(store: &Store, minute: u32) -> PressureTold
 // refusals 5, 14, 11 and 12.
 #[unsafe(no_mangle)]
 pub extern "C" fn zhitomrak_tendency(store: &Store, minute: u32) -> TendencyTold
-    ensures { AnsweredAs asked.tendency store.now store.now minute result }
+    ensures { AnsweredAs asked.tendency store.entry.now store.exit.now minute result }
 {
     zhitomrak::zhitomrak_tendency(store, minute)
 }
@@ -75,7 +75,7 @@ pub extern "C" fn zhitomrak_tendency(store: &Store, minute: u32) -> TendencyTold
 // The true wind at a minute: speed in tenths of m/s, and the direction it comes from, 1 to 360 or 0 in a calm; refusals 5 and 11.
 #[unsafe(no_mangle)]
 pub extern "C" fn zhitomrak_wind(store: &Store, minute: u32) -> WindTold
-    ensures { AnsweredAs asked.wind store.now store.now minute result }
+    ensures { AnsweredAs asked.wind store.entry.now store.exit.now minute result }
 {
     zhitomrak::zhitomrak_wind(store, minute)
 }
@@ -84,7 +84,7 @@ pub extern "C" fn zhitomrak_wind(store: &Store, minute: u32) -> WindTold
 // tenths of °C; refusals 5, 11, 12, 13, 20, 21, 22 and 15. (7 only of a block that has a store's mark and that no opening made.)
 #[unsafe(no_mangle)]
 pub extern "C" fn zhitomrak_humidity(store: &Store, minute: u32) -> HumidityTold
-    ensures { AnsweredAs asked.humidity store.now store.now minute result }
+    ensures { AnsweredAs asked.humidity store.entry.now store.exit.now minute result }
 {
     zhitomrak::zhitomrak_humidity(store, minute)
 }
