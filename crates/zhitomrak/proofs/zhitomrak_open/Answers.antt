@@ -5,7 +5,6 @@ use Rattle.settings.specs.Settings.{checked}
 use Rattle.store.specs.Block.{opened_by}
 use Rattle.number.specs.Refusal.{number_in}
 use Rattle.zhitomrak.proofs.zhitomrak_open.Goals as goal
-use Rattle.zhitomrak.proofs.zhitomrak_open.Goals.{After-open}
 
 pub returns-then-settings-gt1 : goal.returns-then-settings-gt1
 returns-then-settings-gt1 c = record { answer = rw (lt-ltb _ _ c.if-settings-gt1.true); block = rw (lt-ltb _ _ c.if-settings-gt1.true) }
