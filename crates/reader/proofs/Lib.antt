@@ -1,3 +1,4 @@
+pub mod RowLaws
 pub mod ContentsLaws
 pub mod SizeLaws
 pub mod BodiesLaws

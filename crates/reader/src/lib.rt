@@ -229,6 +229,7 @@ fn test_body(s: &[u8], kind: u8) -> BodyTested
 }
 
 // The row at the start of s, of a record whose body has to start at `next`, behind a record of rank `before`.
+#[tactic(auto, using(crate::proofs::RowLaws::offset_wrong))]
 fn read_row(s: &[u8], next: usize, before: u64) -> RowRead
     ensures { RowFound next before s.now result }
 {
