@@ -2,17 +2,16 @@
 #![tactic(auto)]
 
 ghost use Rattle.std.specs.Prelude.{◌≡◌, ℕ, ℤ};
-ghost use Rattle.text.specs.Text.{Put};
 ghost use Rattle.spoken.specs.Refusals.{refusal_text};
 ghost use Rattle.desk.specs.Counting.{messages, HearsAll};
 ghost use Rattle.watchfile.specs.Format.{DewRule};
 ghost use Rattle.kept.specs.Kept.{newest_in, newest_of, reading_in, reading_of, Marks};
 ghost use Rattle.entered.specs.Entered.{RecordedBy};
 ghost use Rattle.bridge.specs.Calls.{SettingsAs, PlacedAs, TakenAs};
-ghost use Rattle.bridge.specs.Sentences.{refused_text, pressure_said, tendency_said, wind_said, humidity_said, reading_said, Says};
+ghost use Rattle.bridge.specs.Sentences.{pressure_said, tendency_said, wind_said, humidity_said, reading_said, Says};
 
-use block::{NO_STORE, Store};
-use desk::{Counts, NUMBERS};
+use block::Store;
+use desk::NUMBERS;
 use entered::Words;
 use filed::PlaceTold;
 use kept::{NewestTold, ReadingTold};
