@@ -13,6 +13,9 @@ use hexadecimal::is_hex;
 use line::{Part, Said, field_end, next_word, same, signed, whole};
 use values::ANEMOMETER;
 
+// The letter of a form for a word in hex, which may be left out.
+const HEX: u8 = b'x';
+
 // What a command does.
 #[derive(Clone, Copy)]
 pub enum Verb {
@@ -272,7 +275,7 @@ fn lay_line(verb: Verb, form: &[u8], line: &[u8], at: usize, numbers: &mut [u64]
         match next_word(line, here) {
             Part::End => {
                 if count < fixed {
-                    if form[count] != b'x' {
+                    if form[count] != HEX {
                         return Command::Wrong(Fault::WordCount);
                     }
                 }

@@ -12,6 +12,9 @@ use watchfile::{Body, Record};
 
 // ---- messages, heard and counted
 
+// The most absent minutes that a record's byte counts.
+const MOST_ABSENT: u64 = 255;
+
 // A place for every number of one byte: 0 for what was heard, then refusals, up to that of a block that is no store.
 pub const NUMBERS: usize = 256;
 
@@ -98,7 +101,7 @@ pub fn tendency_record(minute: u32, r: TendencyAnswer) -> Entry
             if !n.within(SIGNED_LOW, SIGNED_HIGH) {
                 return Entry::NoRecord;
             }
-            if absent > 255 {
+            if absent > MOST_ABSENT {
                 return Entry::NoRecord;
             }
             Entry::Record(Record {

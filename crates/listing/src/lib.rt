@@ -148,7 +148,8 @@ fn list_short(file: &[u8], text: &mut [u8]) -> Listed
 {
     let mut whole = [0u8; TEXT];
     let n = put_file(&mut whole, file);
-    if text.len() < n {
+    let short = text.len() < n;
+    if short {
         return Listed::TooShort(n);
     }
     text::put_bytes(text, 0, &whole[..n]);

@@ -1,4 +1,5 @@
 pub mod RowLaws
+pub mod HeadLaws
 pub mod ContentsLaws
 pub mod SizeLaws
 pub mod BodiesLaws

@@ -325,6 +325,7 @@ fn label_right(a: u8, b: u8) -> bool
 }
 
 // Whether a file is good: how many records it has, or 18 with the place where it is broken.
+#[tactic(auto, using(crate::proofs::HeadLaws::version_wrong, crate::proofs::HeadLaws::count_wrong))]
 pub fn read(file: &[u8]) -> Verdict
     ensures { (rule : ℕ → ℤ) → DewRule rule → verdict_as result ≡ counted (reading rule file.now) }
 {

@@ -33,6 +33,7 @@ fn put_hundredths(text: &mut [u8], at: usize, n: u64) -> usize
     text::put_natural(text, last, n % 10)
 }
 
+#[tactic(auto, using(crate::proofs::MinusLaws::minus_put))]
 fn put_tenths_of(text: &mut [u8], at: usize, n: Number) -> usize
     ensures { Put text.old text.new at (tenths_of n.v) result }
 {

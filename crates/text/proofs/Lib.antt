@@ -1,3 +1,4 @@
 pub mod PutLaws
 pub mod DecimalLaws
+pub mod DigitLaws
 pub mod SingleAnswers

@@ -26,6 +26,7 @@ fn last_digit(n: u64) -> u8
 }
 
 // Puts a number in decimal digits. The place behind them.
+#[tactic(auto, using(crate::proofs::DigitLaws::digit_laid, crate::proofs::DigitLaws::digit_next))]
 pub fn put_natural(text: &mut [u8], at: usize, n: u64) -> usize
     ensures { Put text.old text.new at (decimal n) result }
 {

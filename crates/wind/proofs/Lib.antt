@@ -2,6 +2,7 @@ pub mod BisectionLaws
 pub mod DifferenceLaws
 pub mod SpeedLaws
 pub mod AngleLaws
+pub mod TurnedLaws
 pub mod LimitLaws
 pub mod WindTheorems
 pub mod WindTest

@@ -107,6 +107,7 @@ fn angle(s: u64, k: u64, r: u32) -> u32
 }
 
 // r plus the angle on the one side of the ship, minus the angle on the other.
+#[tactic(auto, using(crate::proofs::TurnedLaws::turned_added))]
 fn turned(r: u32, angle: u32) -> u32
     requires { (r < 360) × (angle ≤ 180) }
     ensures { (result ≡ turned r angle) × (result < 540) }

@@ -6,6 +6,8 @@ pub mod WipeLaws
 pub mod JumpLaws
 pub mod PresentLaws
 pub mod AcceptLaws
+pub mod LateLaws
 pub mod KeptLaws
+pub mod FindLaws
 pub mod AbsentLaws
 pub mod SingleAnswers

@@ -167,6 +167,7 @@ pub fn next(window: &[u64]) -> u64
 }
 
 // Takes a value for a minute, if it is later than the newest: true, and the value is kept; else false, and nothing changes.
+#[tactic(auto, using(crate::proofs::LateLaws::late_answer, crate::proofs::LateLaws::late_words))]
 pub fn accept(window: &mut [u64], minute: u32, value: u64) -> bool
     ensures { Taken window.old window.new minute value result }
 {
@@ -182,6 +183,7 @@ pub fn accept(window: &mut [u64], minute: u32, value: u64) -> bool
 }
 
 // What is kept of a minute.
+#[tactic(auto, using(crate::proofs::FindLaws::find_unset))]
 pub fn find(window: &[u64], minute: u32) -> Found
     ensures { result ≡ kept window.now minute }
 {

@@ -1,4 +1,5 @@
 pub mod Pattern
+pub mod ChannelLaws
 pub mod DecodeLaws
 pub mod SingleAnswers
 pub mod RefusalsInOrder

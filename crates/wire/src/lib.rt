@@ -192,6 +192,7 @@ fn timed(bytes: &[u8]) -> Decoded
 }
 
 // What the bytes say: a message and its minute, or the first of refusals 1 to 6 that holds.
+#[tactic(auto, using(crate::proofs::ChannelLaws::channel_wrong))]
 pub fn decode(bytes: &[u8]) -> Decoded
     ensures { decoded_as result ≡ decoded bytes.now }
 {

@@ -20,18 +20,18 @@ loop-from-init c = (c.field_end-fixed.ensures ∙ end_first c.args.form.now, sea
 pub bounds-form-count : goal.bounds-form-count
 bounds-form-count c = omega (arith, c.loop-from.invariant.0, before_short colon c.args.form.now)
 
-pub returns-then-form-count-ne120 : goal.returns-then-form-count-ne120
-returns-then-form-count-ne120 c =
+pub returns-then-form-count-ne-HEX : goal.returns-then-form-count-ne-HEX
+returns-then-form-count-ne-HEX c =
     let q = c.args in
     let l = c.loop-from in
-    let e = line_short q.verb q.form.now l.count (word_end_is c.next_word.ensures c.in-End.is) (omega (arith, l.invariant.0)) (ne_eqb _ _ c.if-form-count-ne120.true) in
+    let e = line_short q.verb q.form.now l.count (word_end_is c.next_word.ensures c.in-End.is) (omega (arith, l.invariant.0)) (ne_eqb _ _ c.if-form-count-ne-HEX.true) in
     parses (l.invariant.4 _ l.place _ (rw e (leaves_ends l.numbers l.place (Wrong WordCount) l.invariant.2)))
 
-pub returns-else-form-count-ne120 : goal.returns-else-form-count-ne120
-returns-else-form-count-ne120 c =
+pub returns-else-form-count-ne-HEX : goal.returns-else-form-count-ne-HEX
+returns-else-form-count-ne-HEX c =
     let q = c.args in
     let l = c.loop-from in
-    let e = line_no_bytes q.verb q.form.now l.count (word_end_is c.next_word.ensures c.in-End.is) (omega (arith, l.invariant.0)) (eq-eqb _ _ c.if-form-count-ne120.false) in
+    let e = line_no_bytes q.verb q.form.now l.count (word_end_is c.next_word.ensures c.in-End.is) (omega (arith, l.invariant.0)) (eq-eqb _ _ c.if-form-count-ne-HEX.false) in
     parses (l.invariant.4 _ l.place _ (rw e (leaves_ends l.numbers l.place (Does q.verb l.count) l.invariant.2)))
 
 pub returns-else-count-fixed : goal.returns-else-count-fixed

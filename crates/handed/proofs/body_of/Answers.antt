@@ -10,22 +10,3 @@ returns-then-r-eq2 c = rw (ne_eqb _ 1 c.if-r-eq1.false, eq-eqb _ 2 c.if-r-eq2.tr
 
 pub returns-then-r-eq3 : goal.returns-then-r-eq3
 returns-then-r-eq3 c = rw (ne_eqb _ 1 c.if-r-eq1.false, ne_eqb _ 2 c.if-r-eq2.false, eq-eqb _ 3 c.if-r-eq3.true) c.wind_body.ensures
-
-pub returns-then-r-eq4 : goal.returns-then-r-eq4
-returns-then-r-eq4 c =
-    rw (
-      ne_eqb _ 1 c.if-r-eq1.false,
-      ne_eqb _ 2 c.if-r-eq2.false,
-      ne_eqb _ 3 c.if-r-eq3.false,
-      eq-eqb _ 4 c.if-r-eq4.true,
-    )
-    c.humidity_body.ensures
-
-pub returns : goal.returns
-returns c =
-    rw (
-      ne_eqb _ 1 c.if-r-eq1.false,
-      ne_eqb _ 2 c.if-r-eq2.false,
-      ne_eqb _ 3 c.if-r-eq3.false,
-      ne_eqb _ 4 c.if-r-eq4.false,
-    )

@@ -8,12 +8,12 @@ use Rattle.listing.proofs.FitLaws.{listing_fits}
 use Rattle.listing.proofs.ListLaws.{lists_none, lists_all}
 use Rattle.listing.proofs.list_short.Goals as goal
 
-pub returns-then-text-n : goal.returns-then-text-n
-returns-then-text-n c =
+pub returns-then-short : goal.returns-then-short
+returns-then-short c =
     λ rule ruled.
     let s = c.args in
     let fits = listing_fits rule s.file.now (λ i. (c.shared_slice_known-1.given i).fits) (omega arith) in
-    lists_none fits (c.put_file-n.ensures rule ruled) c.if-text-n.true
+    lists_none fits (c.put_file-n.ensures rule ruled) c.if-short.true
 
 pub slice_bounds-whole-end : goal.slice_bounds-whole-end
 slice_bounds-whole-end c =
@@ -30,4 +30,4 @@ returns c =
     λ rule ruled.
     let s = c.args in
     let fits = listing_fits rule s.file.now (λ i. (c.shared_slice_known-1.given i).fits) (omega arith) in
-    lists_all fits (c.put_file-n.ensures rule ruled) c.if-text-n.false c.put_bytes.ensures
+    lists_all fits (c.put_file-n.ensures rule ruled) c.if-short.false c.put_bytes.ensures

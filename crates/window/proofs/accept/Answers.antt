@@ -1,5 +1,5 @@
 -- `accept` meets its contract: its tests are those of `takes`. Assumes nothing.
-use Rattle.window.proofs.AcceptLaws.{taken_else, taken_late, taken_kept}
+use Rattle.window.proofs.AcceptLaws.{taken_else, taken_kept}
 use borrow.Author.Rules.{rules}
 use Rattle.window.proofs.accept.Goals as goal
 
@@ -7,11 +7,6 @@ pub returns-then-window-ne-WINDOW : goal.returns-then-window-ne-WINDOW
 returns-then-window-ne-WINDOW c =
     let a = c.args in
     taken_else a.window.now a.minute a.value c.if-window-ne-WINDOW.true
-
-pub returns-then-m-window : goal.returns-then-m-window
-returns-then-m-window c =
-    let a = c.args in
-    taken_late a.window.now a.minute a.value (search rules)
 
 pub returns : goal.returns
 returns c =

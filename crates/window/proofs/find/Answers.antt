@@ -1,6 +1,6 @@
 -- `find` meets its contract: its tests are those by which a minute is present. Assumes nothing.
-use mathlib.Core.Path.{sym, ◌∙◌}
-use Rattle.window.proofs.PresentLaws.{present_else, present_late, present_gone, present_unset, present_set}
+use mathlib.Core.Path.{◌≡◌, sym, ◌∙◌}
+use Rattle.window.proofs.PresentLaws.{present_else, present_late, present_gone, present_set}
 use Rattle.window.proofs.KeptLaws.{absent_kept, present_kept}
 use borrow.Author.Rules.{rules}
 use Rattle.window.proofs.find.Goals as goal
@@ -20,17 +20,11 @@ returns-then-t-m-gt-MINUTES c =
     let a = c.args in
     sym (absent_kept a.window.now a.minute (present_gone a.window.now a.minute (search rules)))
 
-pub returns-then-bit-eq0 : goal.returns-then-bit-eq0
-returns-then-bit-eq0 c =
-    let a = c.args in
-    let b = rw c.word_of-i.ensures at c.bit.ensures in
-    sym (absent_kept a.window.now a.minute
-    (present_unset a.window.now a.minute (search rules) (search rules) (search rules) (sym b ∙ c.if-bit-eq0.true)))
-
 pub returns : goal.returns
 returns c =
     let a = c.args in
     let b = rw c.word_of-i.ensures at c.bit.ensures in
+    let held : c.bit.result ≡ 0 → ⊥ = search rules in
     rw c.cell_of-k.ensures
     (sym (present_kept a.window.now a.minute
-    (present_set a.window.now a.minute (search rules) (search rules) (search rules) (λ z. c.if-bit-eq0.false (b ∙ z)))))
+    (present_set a.window.now a.minute (search rules) (search rules) (search rules) (λ z. held (b ∙ z)))))
