@@ -122,22 +122,14 @@ fn is_nearest(entry: i128, sine: Between) -> bool {
     (2 * entry - 1) << BITS < low && high < (2 * entry + 1) << BITS
 }
 
-/// The numbers of a file's table: of the list between `sines =` and `[]`, or of the arms `i => n,` of the `match`, in order.
+/// The numbers of a file's table: of the list between `sines =` and `[]`, or of the const array between `SINES: [u32; 181] = [` and `]`.
 fn numbers(text: &str) -> Vec<i128> {
-    if let Some(at) = text.find("sines =") {
-        let list = &text[at + "sines =".len()..];
-        let list = &list[..list.find("[]").unwrap_or(0)];
-        return list.split('∷').filter_map(|n| n.trim().parse().ok()).collect();
-    }
-    let mut all = Vec::new();
-    for line in text.lines() {
-        let Some((i, n)) = line.trim().split_once(" => ") else { continue };
-        let (Ok(i), Ok(n)) = (i.parse::<usize>(), n.trim_end_matches(',').parse()) else { continue };
-        if i == all.len() {
-            all.push(n);
-        }
-    }
-    all
+    let between = |from: &str, to: &str| {
+        let rest = text.split_once(from)?.1;
+        Some(rest.split_once(to)?.0.to_string())
+    };
+    let list = between("sines =", "[]").or_else(|| between("SINES: [u32; 181] = [", "]")).unwrap_or_default();
+    list.split(['∷', ',']).filter_map(|n| n.trim().parse().ok()).collect()
 }
 
 fn fail(say: String) -> ! {

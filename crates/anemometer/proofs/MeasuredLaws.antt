@@ -9,14 +9,13 @@ use lib.IntN.{ℤ, pos, nat_abs}
 use lib.ListN.{get_or, take, drop, length}
 use lib.Seq.{get_or-take, get_or-drop}
 use borrow.Author.Tests.{leb-true, lt-ltb, not-false}
+use Rattle.std.specs.Prelude.{Option, Some, None}
 use Rattle.number.specs.Refusal.{refused, given, answer}
 use Rattle.number.specs.declared.Number.{Number}
 use Rattle.number.proofs.Sizes.{and_true, impossible, natural, within_size}
 use Rattle.quantity.specs.Limits.{inside, metres_per_second}
 use Rattle.certificate.specs.Line.{value_from, none_round, valued, corner_at, corner_in, valued_as}
 use Rattle.certificate.specs.declared.Corner.{Corner}
-use Rattle.certificate.specs.declared.Valued.{Valued}
-use Rattle.certificate.specs.declared.Valued.TheVariants.{Value, NoneThere}
 use Rattle.certificate.proofs.SameLaws.{same_valued}
 use Rattle.block.specs.Layout.{RATES}
 use Rattle.block.specs.Words.{rates_of, rate_of, rate_words_of}
@@ -65,7 +64,7 @@ line_told_lem s n is turn whole =
 -- ---- what the line gives
 
 module _ (c : Certificate) (n : Note) where
-  none_there : {x : Valued} → x ≡ NoneThere → valued_as x ≡ valued (corners c n) c.points (turned n) → outside c n ≡ true
+  none_there : {x : Option Number} → x ≡ None → valued_as x ≡ valued (corners c n) c.points (turned n) → outside c n ≡ true
   unfolding valued outside
   none_there is e = go (none_round (corners c n) (turned n) (c.points - 1)) refl
     where
@@ -73,7 +72,7 @@ module _ (c : Certificate) (n : Note) where
       go true h = h
       go false h = let e' = rw (is, h) at e in impossible (cc)
 
-  there : {x : Valued} {z : Number} → x ≡ Value z → valued_as x ≡ valued (corners c n) c.points (turned n) → (outside c n ≡ false) × (z.v ≡ speed c n)
+  there : {x : Option Number} {z : Number} → x ≡ Some z → valued_as x ≡ valued (corners c n) c.points (turned n) → (outside c n ≡ false) × (z.v ≡ speed c n)
   unfolding valued outside speed
   there {x} {z} is e = go (none_round (corners c n) (turned n) (c.points - 1)) refl
     where
@@ -118,11 +117,11 @@ module _ (c : Certificate) (n : Note) where
   outside_dial h = rw h
 
   module _ (dial : dial_holds n ≡ true) where
-    pub outside_certificate : {x : Valued} → x ≡ NoneThere → valued_as x ≡ valued (corners c n) c.points (turned n) → refused 24 ≡ measured c n
+    pub outside_certificate : {x : Option Number} → x ≡ None → valued_as x ≡ valued (corners c n) c.points (turned n) → refused 24 ≡ measured c n
     unfolding measured answer
     outside_certificate is e = rw (dial, none_there is e)
 
-    pub beyond : {x : Valued} {z : Number} → x ≡ Value z → valued_as x ≡ valued (corners c n) c.points (turned n) → inside metres_per_second z.v ≡ false
+    pub beyond : {x : Option Number} {z : Number} → x ≡ Some z → valued_as x ≡ valued (corners c n) c.points (turned n) → inside metres_per_second z.v ≡ false
         → refused 24 ≡ measured c n
     unfolding measured answer
     beyond is e i =
@@ -130,7 +129,7 @@ module _ (c : Certificate) (n : Note) where
         let i' : inside metres_per_second (speed c n) ≡ false = sym (ap (inside metres_per_second) w.1) ∙ i in
         rw (dial, w.0, i')
 
-    pub a_speed : {x : Valued} {z : Number} {r : ℕ} → x ≡ Value z → valued_as x ≡ valued (corners c n) c.points (turned n) → inside metres_per_second z.v ≡ true
+    pub a_speed : {x : Option Number} {z : Number} {r : ℕ} → x ≡ Some z → valued_as x ≡ valued (corners c n) c.points (turned n) → inside metres_per_second z.v ≡ true
         → r ≡ nat_abs z.v → given (pos r) ≡ measured c n
     unfolding measured answer
     a_speed {x} {z} is e i size =

@@ -1,8 +1,9 @@
 -- The hand anemometer (document 02, W5; 004, section 7.2): speed by the dial's rate, and direction from the bow.
-use Rattle.std.specs.Prelude.{Bool, not, ◌&&◌, ◌||◌, cond, List, [], ◌∷◌, ℕ, ◌+◌, ◌-◌, eqb, leb, ltb, ℤ, pos, ◌*ℤ◌}
+use Rattle.std.specs.Prelude.{Bool, not, ◌&&◌, ◌||◌, cond, List, [], ◌∷◌, ℕ, ◌+◌, ◌-◌, eqb, leb, ltb, ℤ, pos, ◌*ℤ◌, Result, Ok, Err}
 use Rattle.number.specs.Refusal.{Test, Answer, refused, given, answer}
 use Rattle.quantity.specs.Limits.{inside, metres_per_second}
 use Rattle.quantity.specs.Convert.{kept_direction}
+use Rattle.quantity.specs.declared.MetresPerSecond.{MetresPerSecond}
 use Rattle.settings.specs.Settings.{rate_point_at}
 use Rattle.settings.specs.declared.Settings.{Settings}
 use Rattle.settings.specs.declared.RatePoint.{RatePoint}
@@ -10,8 +11,8 @@ use Rattle.certificate.specs.Line.{value_from, none_round}
 use Rattle.certificate.specs.declared.Corner.{Corner}
 use Rattle.block.specs.Words.{rates_of, rate_of}
 use Rattle.anemometer.specs.declared.Note.{Note}
-use Rattle.anemometer.specs.declared.Measured.{Measured}
-use Rattle.anemometer.specs.declared.Measured.TheVariants.{Speed, OutsideDial, OutsideCertificate}
+use Rattle.anemometer.specs.declared.DialRefusal.{DialRefusal}
+use Rattle.anemometer.specs.declared.DialRefusal.TheVariants.{OutsideDial, OutsideCertificate}
 
 -- The certificate's points by their places from 0; none where the store has no anemometer.
 pub record Certificate : Type 0 where
@@ -74,10 +75,10 @@ measured c n =
     (speed c n)
 
 -- The documents' number and value of each case.
-abbrev pub measured_as : Measured → Answer ℕ ℤ
-measured_as (Speed v) = given (pos v.0)
-measured_as OutsideDial = refused 23
-measured_as OutsideCertificate = refused 24
+abbrev pub measured_as : Result MetresPerSecond DialRefusal → Answer ℕ ℤ
+measured_as (Ok v) = given (pos v.0)
+measured_as (Err OutsideDial) = refused 23
+measured_as (Err OutsideCertificate) = refused 24
 
 -- ---- the direction
 

@@ -6,7 +6,6 @@ ghost use Rattle.std.specs.Prelude.{◌≡◌, ◌≤◌};
 ghost use Rattle.anemometer.specs.Anemometer.{turns, dial_holds, from_bow, certificate_held, measured, measured_as};
 
 use block::Store;
-use certificate::Valued;
 use number::Number;
 use quantity::{Degrees, MetresPerSecond};
 
@@ -22,10 +21,9 @@ pub struct Note {
     pub seconds: u32,
 }
 
-// What the dial tells.
+// Why the dial tells no speed.
 #[derive(Clone, Copy)]
-pub enum Measured {
-    Speed(MetresPerSecond),
+pub enum DialRefusal {
     // 23: the seconds, or a reading of the dial, lie outside their limits
     OutsideDial,
     // 24: the rate lies outside the certificate, or there is none
@@ -38,19 +36,14 @@ impl Note {
     pub const LONGEST: u32 = 600;
 
     // Whether seconds and dial lie within their limits.
+    #[tactic(auto, unfolding(crate::specs::Anemometer::dial_holds))]
     pub fn holds(self) -> bool
         ensures { result ≡ dial_holds self }
     {
-        if self.first > Self::LAST_DIVISION {
-            return false;
-        }
-        if self.second > Self::LAST_DIVISION {
-            return false;
-        }
-        if self.seconds == 0 {
-            return false;
-        }
-        self.seconds <= Self::LONGEST
+        self.first <= Self::LAST_DIVISION
+            && self.second <= Self::LAST_DIVISION
+            && self.seconds != 0
+            && self.seconds <= Self::LONGEST
     }
 }
 
@@ -67,21 +60,16 @@ fn turns(first: u32, second: u32) -> u32
 
 // The speed of the apparent wind: the straight line between the neighbouring points of the store's certificate at the exact rate, rounded.
 // Or the first of refusals 23 and 24 that holds.
-pub fn measure(store: &Store, n: Note) -> Measured
+pub fn measure(store: &Store, n: Note) -> Result<MetresPerSecond, DialRefusal>
     ensures { measured_as result ≡ measured (certificate_held store.now) n }
 {
     if !n.holds() {
-        return Measured::OutsideDial;
+        return Err(DialRefusal::OutsideDial);
     }
     let turned = Number::whole(turns(n.first, n.second));
     match certificate::value_at(block::anemometer(store), n.seconds as u16, turned) {
-        Valued::NoneThere => Measured::OutsideCertificate,
-        Valued::Value(v) => {
-            if MetresPerSecond::holds(v) {
-                return Measured::Speed(MetresPerSecond(v.size() as u32));
-            }
-            Measured::OutsideCertificate
-        }
+        Some(v) if MetresPerSecond::holds(v) => Ok(MetresPerSecond(v.size() as u32)),
+        _ => Err(DialRefusal::OutsideCertificate),
     }
 }
 

@@ -1,60 +1,51 @@
-// The station's answers as lines of text in a lent buffer. Each function puts one line at a place and gives the place behind it;
-// what would lie beyond the buffer's end is cut off.
+// The station's answers as lines of text. Each public function puts one line on a page.
 #![tactic(auto)]
 
-ghost use Rattle.std.specs.Prelude.{[], ◌∷◌, ◌++◌, ◌≤◌, length};
+ghost use Rattle.std.specs.Prelude.{[], ◌∷◌, ◌++◌, ◌≤◌, length, Ok};
 ghost use Rattle.station.specs.Told.{refusal_of};
-ghost use Rattle.station.specs.declared.PressureAnswer.TheVariants as pressure;
-ghost use Rattle.station.specs.declared.TendencyAnswer.TheVariants as tendency;
-ghost use Rattle.station.specs.declared.WindAnswer.TheVariants as wind;
-ghost use Rattle.station.specs.declared.HumidityAnswer.TheVariants as humidity;
 ghost use Rattle.text.specs.Letters.{letters};
-ghost use Rattle.text.specs.Text.{field, end, Put};
+ghost use Rattle.text.specs.Text.{field, end, Puts};
 ghost use Rattle.answer.specs.Answer.{fields, refused_line, number_line, opening_line, heard_line, hearing_line, noting_line, pressure_line, tendency_line, wind_line, humidity_fields, humidity_line, file_line, written_line};
 
 use humidity::HumidityFigures;
-use quantity::{Degrees, Hectopascals, MetresPerSecond};
-use settings::Checked;
-use station::{
-    HumidityAnswer, PressureAnswer, QuestionRefusal, Refused, TendencyAnswer, WindAnswer,
-};
-use store::Hearing;
-use writer::Written;
+use quantity::Hectopascals;
+use settings::SettingsRefusal;
+use station::{PressureTendency, QuestionRefusal, Refused};
+use store::HearingRefusal;
+use text::Page;
+use wind::Wind;
+use writer::WriteRefusal;
 
 // ---- refusals
 
 // Puts numbers, each behind a space.
-fn put_fields(text: &mut [u8], at: usize, numbers: &[u64]) -> usize
-    requires { at ≤ length text.old }
-    ensures { Put text.old text.new at (fields numbers.now) result }
+fn put_fields(page: &mut Page<'_>, numbers: &[u64])
+    requires { page.old.at ≤ length page.old.text.now }
+    ensures { Puts page.old page.new (fields numbers.now) }
 {
-    let mut place = at;
-    let mut i = 0;
-    while i < numbers.len() {
-        place = text::put_field(text, place, numbers[i]);
-        i += 1;
+    for n in numbers {
+        page.field(*n);
     }
-    place
 }
 
 // Puts the line of a refusal: its number, and behind it what it also returns.
-fn put_refusal(text: &mut [u8], at: usize, numbers: &[u64]) -> usize
-    ensures { Put text.old text.new at (letters "refused" ++ (fields numbers.now ++ end)) result }
+fn put_refusal(page: &mut Page<'_>, numbers: &[u64])
+    ensures { Puts page.old page.new (letters "refused" ++ (fields numbers.now ++ end)) }
 {
-    let behind = text::put_bytes(text, at, b"refused");
-    let last = put_fields(text, behind, numbers);
-    text::put_byte(text, last, b'\n')
+    page.bytes(b"refused");
+    put_fields(page, numbers);
+    page.byte(b'\n');
 }
 
 // Puts the line of a question's refusal.
-fn put_question_refusal(text: &mut [u8], at: usize, why: QuestionRefusal) -> usize
-    ensures { Put text.old text.new at (refused_line (refusal_of why)) result }
+fn put_question_refusal(page: &mut Page<'_>, why: QuestionRefusal)
+    ensures { Puts page.old page.new (refused_line (refusal_of why)) }
 {
     match station::number(why) {
-        Refused::Plain(n) => put_refusal(text, at, &[n as u64]),
-        Refused::OfMinute(n, minute) => put_refusal(text, at, &[n as u64, minute.0 as u64]),
+        Refused::Plain(n) => put_refusal(page, &[n as u64]),
+        Refused::OfMinute(n, minute) => put_refusal(page, &[n as u64, minute.0 as u64]),
         Refused::OfReading(n, channel, minute) => {
-            put_refusal(text, at, &[n as u64, channel as u64, minute.0 as u64])
+            put_refusal(page, &[n as u64, channel as u64, minute.0 as u64])
         }
     }
 }
@@ -62,177 +53,167 @@ fn put_question_refusal(text: &mut [u8], at: usize, why: QuestionRefusal) -> usi
 // ---- opening and hearing
 
 // Puts a word where nothing is refused, number 0, or the refusal of this number.
-fn put_word(text: &mut [u8], at: usize, word: &[u8], number: u32) -> usize
-    ensures { Put text.old text.new at (number_line word.now number) result }
+fn put_word(page: &mut Page<'_>, word: &[u8], number: u32)
+    ensures { Puts page.old page.new (number_line word.now number) }
 {
     if number == 0 {
-        let behind = text::put_bytes(text, at, word);
-        return text::put_byte(text, behind, b'\n');
+        page.bytes(word);
+        return page.byte(b'\n');
     }
-    put_refusal(text, at, &[number as u64])
+    put_refusal(page, &[number as u64]);
 }
 
 // Puts `open`, or the refusal.
-pub fn put_opening(text: &mut [u8], at: usize, r: Checked) -> usize
-    ensures { Put text.old text.new at (opening_line r) result }
+pub fn put_opening(page: &mut Page<'_>, r: Result<(), SettingsRefusal>)
+    ensures { Puts page.old page.new (opening_line r) }
 {
-    put_word(text, at, b"open", settings::number(r))
+    put_word(page, b"open", settings::number(r));
 }
 
 // Puts a word where it was heard, or the refusal. Behind 19 stands how many minutes late it was, behind 11 the channel of the course and
 // the minute.
-fn put_heard(text: &mut [u8], at: usize, word: &[u8], r: Hearing) -> usize
-    ensures { Put text.old text.new at (heard_line word.now r) result }
+fn put_heard(page: &mut Page<'_>, word: &[u8], r: Result<(), HearingRefusal>)
+    ensures { Puts page.old page.new (heard_line word.now r) }
 {
     let n = store::number(r);
     match r {
-        Hearing::Late(minutes) => put_refusal(text, at, &[n as u64, minutes]),
-        Hearing::NoCourse(minute) => put_refusal(text, at, &[n as u64, 3, minute.0 as u64]),
-        _ => put_word(text, at, word, n),
+        Err(HearingRefusal::Late(minutes)) => put_refusal(page, &[n as u64, minutes]),
+        Err(HearingRefusal::NoCourse(minute)) => put_refusal(page, &[n as u64, 3, minute.0 as u64]),
+        _ => put_word(page, word, n),
     }
 }
 
 // Puts `heard`, or why the message is refused.
-pub fn put_hearing(text: &mut [u8], at: usize, r: Hearing) -> usize
-    ensures { Put text.old text.new at (hearing_line r) result }
+pub fn put_hearing(page: &mut Page<'_>, r: Result<(), HearingRefusal>)
+    ensures { Puts page.old page.new (hearing_line r) }
 {
-    put_heard(text, at, b"heard", r)
+    put_heard(page, b"heard", r);
 }
 
 // Puts `noted`, or why the entry is refused.
-pub fn put_noting(text: &mut [u8], at: usize, r: Hearing) -> usize
-    ensures { Put text.old text.new at (noting_line r) result }
+pub fn put_noting(page: &mut Page<'_>, r: Result<(), HearingRefusal>)
+    ensures { Puts page.old page.new (noting_line r) }
 {
-    put_heard(text, at, b"noted", r)
+    put_heard(page, b"noted", r);
 }
 
 // ---- the four questions
 
 // Puts the letter of an answer, and the minute.
-fn put_head(text: &mut [u8], at: usize, letter: u8, minute: u32) -> usize
-    ensures { Put text.old text.new at ((letter ∷ []) ++ field minute) result }
+fn put_head(page: &mut Page<'_>, letter: u8, minute: u32)
+    ensures { Puts page.old page.new ((letter ∷ []) ++ field minute) }
 {
-    let behind = text::put_byte(text, at, letter);
-    text::put_field(text, behind, minute as u64)
+    page.byte(letter);
+    page.field(minute as u64);
 }
 
 // Puts the line of a pressure.
-fn put_sea_level(text: &mut [u8], at: usize, minute: u32, p: Hectopascals) -> usize
-    ensures { Put text.old text.new at (pressure_line minute (pressure.Given p)) result }
+fn put_sea_level(page: &mut Page<'_>, minute: u32, p: Hectopascals)
+    ensures { Puts page.old page.new (pressure_line minute (Ok p)) }
 {
-    let behind = put_head(text, at, b'P', minute);
-    let last = text::put_signed(text, behind, p.0);
-    text::put_byte(text, last, b'\n')
+    put_head(page, b'P', minute);
+    page.signed(p.0);
+    page.byte(b'\n');
 }
 
 // Puts the pressure at sea level, or the refusal.
-pub fn put_pressure(text: &mut [u8], at: usize, minute: u32, r: PressureAnswer) -> usize
-    ensures { Put text.old text.new at (pressure_line minute r) result }
+pub fn put_pressure(page: &mut Page<'_>, minute: u32, r: Result<Hectopascals, QuestionRefusal>)
+    ensures { Puts page.old page.new (pressure_line minute r) }
 {
     match r {
-        PressureAnswer::Given(p) => put_sea_level(text, at, minute, p),
-        PressureAnswer::Refused(why) => put_question_refusal(text, at, why),
+        Ok(p) => put_sea_level(page, minute, p),
+        Err(why) => put_question_refusal(page, why),
     }
 }
 
 // Puts the line of a change of pressure.
-fn put_change(text: &mut [u8], at: usize, minute: u32, change: Hectopascals, absent: u64) -> usize
-    ensures { Put text.old text.new at (tendency_line minute (tendency.Given change absent)) result }
+fn put_change(page: &mut Page<'_>, minute: u32, t: PressureTendency)
+    ensures { Puts page.old page.new (tendency_line minute (Ok t)) }
 {
-    let behind = put_head(text, at, b'T', minute);
-    let second = text::put_signed(text, behind, change.0);
-    let last = text::put_field(text, second, absent);
-    text::put_byte(text, last, b'\n')
+    put_head(page, b'T', minute);
+    page.signed(t.change.0);
+    page.field(t.absent);
+    page.byte(b'\n');
 }
 
 // Puts the tendency, or the refusal.
-pub fn put_tendency(text: &mut [u8], at: usize, minute: u32, r: TendencyAnswer) -> usize
-    ensures { Put text.old text.new at (tendency_line minute r) result }
+pub fn put_tendency(page: &mut Page<'_>, minute: u32, r: Result<PressureTendency, QuestionRefusal>)
+    ensures { Puts page.old page.new (tendency_line minute r) }
 {
     match r {
-        TendencyAnswer::Given(change, absent) => put_change(text, at, minute, change, absent),
-        TendencyAnswer::Refused(why) => put_question_refusal(text, at, why),
+        Ok(t) => put_change(page, minute, t),
+        Err(why) => put_question_refusal(page, why),
     }
 }
 
 // Puts the line of a true wind.
-fn put_true_wind(
-    text: &mut [u8],
-    at: usize,
-    minute: u32,
-    speed: MetresPerSecond,
-    direction: Degrees,
-) -> usize
-    ensures { Put text.old text.new at (wind_line minute (wind.Given speed direction)) result }
+fn put_true_wind(page: &mut Page<'_>, minute: u32, w: Wind)
+    ensures { Puts page.old page.new (wind_line minute (Ok w)) }
 {
-    let behind = put_head(text, at, b'W', minute);
-    let second = text::put_field(text, behind, speed.0 as u64);
-    let last = text::put_field(text, second, direction.0 as u64);
-    text::put_byte(text, last, b'\n')
+    put_head(page, b'W', minute);
+    page.field(w.speed.0 as u64);
+    page.field(w.direction.0 as u64);
+    page.byte(b'\n');
 }
 
 // Puts the true wind, or the refusal.
-pub fn put_wind(text: &mut [u8], at: usize, minute: u32, r: WindAnswer) -> usize
-    ensures { Put text.old text.new at (wind_line minute r) result }
+pub fn put_wind(page: &mut Page<'_>, minute: u32, r: Result<Wind, QuestionRefusal>)
+    ensures { Puts page.old page.new (wind_line minute r) }
 {
     match r {
-        WindAnswer::Given(speed, direction) => put_true_wind(text, at, minute, speed, direction),
-        WindAnswer::Refused(why) => put_question_refusal(text, at, why),
+        Ok(w) => put_true_wind(page, minute, w),
+        Err(why) => put_question_refusal(page, why),
     }
 }
 
 // Puts the figures of a humidity, and the end of the line.
-fn put_moisture(text: &mut [u8], at: usize, h: HumidityFigures) -> usize
-    ensures { Put text.old text.new at (humidity_fields h) result }
+fn put_moisture(page: &mut Page<'_>, h: HumidityFigures)
+    ensures { Puts page.old page.new (humidity_fields h) }
 {
-    let e = h.e;
-    let saturation = h.saturation;
-    let deficit = h.deficit;
-    let dew = h.dew.0;
-    let second = text::put_field(text, at, e.0 as u64);
-    let third = text::put_field(text, second, saturation.0 as u64);
-    let fourth = text::put_field(text, third, deficit.0 as u64);
-    let fifth = text::put_field(text, fourth, h.relative as u64);
-    let last = text::put_signed(text, fifth, dew.number());
-    text::put_byte(text, last, b'\n')
+    page.field(h.e.0 as u64);
+    page.field(h.saturation.0 as u64);
+    page.field(h.deficit.0 as u64);
+    page.field(h.relative as u64);
+    page.signed(h.dew.0.number());
+    page.byte(b'\n');
 }
 
 // Puts the line of a humidity.
-fn put_figures(text: &mut [u8], at: usize, minute: u32, h: HumidityFigures) -> usize
-    ensures { Put text.old text.new at (humidity_line minute (humidity.Given h)) result }
+fn put_figures(page: &mut Page<'_>, minute: u32, h: HumidityFigures)
+    ensures { Puts page.old page.new (humidity_line minute (Ok h)) }
 {
-    let behind = put_head(text, at, b'H', minute);
-    put_moisture(text, behind, h)
+    put_head(page, b'H', minute);
+    put_moisture(page, h);
 }
 
 // Puts the humidity, or the refusal.
-pub fn put_humidity(text: &mut [u8], at: usize, minute: u32, r: HumidityAnswer) -> usize
-    ensures { Put text.old text.new at (humidity_line minute r) result }
+pub fn put_humidity(page: &mut Page<'_>, minute: u32, r: Result<HumidityFigures, QuestionRefusal>)
+    ensures { Puts page.old page.new (humidity_line minute r) }
 {
     match r {
-        HumidityAnswer::Given(h) => put_figures(text, at, minute, h),
-        HumidityAnswer::Refused(why) => put_question_refusal(text, at, why),
+        Ok(h) => put_figures(page, minute, h),
+        Err(why) => put_question_refusal(page, why),
     }
 }
 
 // ---- files
 
 // Puts the line of a file.
-fn put_file(text: &mut [u8], at: usize, file: &[u8]) -> usize
-    ensures { Put text.old text.new at (file_line file.now) result }
+fn put_file(page: &mut Page<'_>, file: &[u8])
+    ensures { Puts page.old page.new (file_line file.now) }
 {
-    let behind = text::put_bytes(text, at, b"file ");
-    let last = hexadecimal::put_hex(text, behind, file);
-    text::put_byte(text, last, b'\n')
+    page.bytes(b"file ");
+    hexadecimal::put_hex(page, file);
+    page.byte(b'\n');
 }
 
 // Puts the bytes of a file where it was written, or the refusal. `file` is what was written.
-pub fn put_written(text: &mut [u8], at: usize, r: Written, file: &[u8]) -> usize
-    ensures { Put text.old text.new at (written_line file.now r) result }
+pub fn put_written(page: &mut Page<'_>, r: Result<usize, WriteRefusal>, file: &[u8])
+    ensures { Puts page.old page.new (written_line file.now r) }
 {
     match r {
-        Written::Done(_) => put_file(text, at, file),
-        Written::BreaksRules(index) => put_refusal(text, at, &[16, index as u64]),
-        Written::TooShort(needed) => put_refusal(text, at, &[17, needed as u64]),
+        Ok(_) => put_file(page, file),
+        Err(WriteRefusal::BreaksRules(index)) => put_refusal(page, &[16, index as u64]),
+        Err(WriteRefusal::TooShort(needed)) => put_refusal(page, &[17, needed as u64]),
     }
 }

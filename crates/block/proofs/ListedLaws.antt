@@ -4,7 +4,11 @@ use mathlib.Core.Path.{◌≡◌, refl, sym, ap, ◌∙◌}
 use mathlib.Core.List.{List}
 use Prim.Native.Nat.{ℕ, zero, suc, ◌+◌, ◌<◌}
 use native.Mathlib.Omega.{arith}
+use native.Mathlib.Nat.{zero-add}
 use lib.ListN.{get_or, length}
+use Rattle.std.specs.Fn.{Mut, Called}
+use Rattle.std.specs.Array.{IsFromFnResult}
+use Rattle.settings.proofs.MadeLaws.{made_at}
 use lib.Seq.{ext_get_or}
 use Rattle.block.specs.Words.{listed}
 
@@ -24,3 +28,9 @@ module _ {A : Type 0} (f : ℕ → A) where
   listed_by d l i n long at =
       ext_get_or d l (listed f i n) (long ∙ sym (length_listed i n))
       (λ k h. let b : k < n = omega (arith, long) in at k b ∙ sym (get_or-listed d i n k b))
+
+-- what `array::from_fn` makes
+module _ {A F : Type 0} {g : Mut F (ℕ × Unit {0}) A} {f : F} (made : ℕ → A) (top : ℕ) (none : A) where
+  pub made_listed : (ys : List A) → IsFromFnResult g f ys top → ((i : ℕ) (y : A) (q : F) → i < top → Called g f (i, tt) y q → (q ≡ f) × (y ≡ made i)) → ys ≡ listed made 0 top
+  made_listed ys h called =
+      listed_by made none ys 0 top h.long (λ k l. made_at made top none called ys h k l ∙ ap made (sym (zero-add k)))

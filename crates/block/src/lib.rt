@@ -2,10 +2,10 @@
 // side by side.
 #![tactic(auto)]
 
-ghost use Rattle.std.specs.Prelude.{◌≡◌, ◌<◌, length};
-ghost use Rattle.settings.specs.Settings.{point_at, rate_point_at};
+ghost use Rattle.std.specs.Prelude.{◌≡◌, ◌+◌, ◌*◌, ◌<◌, length};
+ghost use Rattle.cell.specs.Cells.{biased};
 ghost use Rattle.block.specs.Layout.{SETTINGS};
-ghost use Rattle.block.specs.Words.{unit_word, point_word, rate_word, up_to, setting_word, opened, is_store, unit_of, setting_of, points_of, point_of, certificate_of, rates_of, rate_of, rate_words_of};
+ghost use Rattle.block.specs.Words.{unit_word, up_to, setting_word, opened, is_store, unit_of, setting_of, points_of, point_of, certificate_of, rates_of, rate_of, rate_words_of};
 
 use cell::CHANNELS;
 use number::Kept;
@@ -46,72 +46,41 @@ fn unit_word(unit: BarometerUnit) -> u64
     }
 }
 
-// The word of a certificate's point, 0 behind the last.
-fn point_word(count: u32, points: [Point; settings::POINTS], k: usize) -> u64
-    requires { k < 16 }
-    ensures { result ≡ up_to count k (point_word (point_at points k)) }
+// The word at place k of a certificate of `count` points, of the two figures of its point there: 0 behind the last.
+fn pair_word(count: u32, k: usize, first: Kept, second: Kept) -> u64
+    ensures { result ≡ up_to count k (biased first.v + 65536 * biased second.v) }
 {
-    if (k as u64) < (count as u64) {
-        let p = points[k];
-        let reading = p.reading;
-        let correction = p.correction;
-        return cell::biased(reading) + 65536 * cell::biased(correction.0);
-    }
-    0
-}
-
-// And of an anemometer's.
-fn rate_word(count: u32, points: [RatePoint; settings::RATES], k: usize) -> u64
-    requires { k < 20 }
-    ensures { result ≡ up_to count k (rate_word (rate_point_at points k)) }
-{
-    if (k as u64) < (count as u64) {
-        let p = points[k];
-        let rate = p.rate;
-        let speed = p.speed;
-        return cell::biased(rate.0) + 65536 * cell::biased(speed);
+    if k < count as usize {
+        return cell::biased(first) + 65536 * cell::biased(second);
     }
     0
 }
 
 // The word at a place of the settings.
-fn setting_word(g: Settings, i: usize) -> u64
+#[tactic(auto, unfolding(crate::specs::Words::setting_word))]
+fn setting_word(g: &Settings, i: usize) -> u64
     requires { i < SETTINGS }
-    ensures { result ≡ setting_word g i }
+    ensures { result ≡ setting_word g.now i }
 {
-    if i == 0 {
-        let unit = g.unit;
-        return unit_word(unit);
+    match i {
+        0 => unit_word(g.unit),
+        1 => cell::biased(g.height.0),
+        2 => cell::biased(g.difference.0),
+        3 => cell::biased(g.coefficient.0),
+        4 => cell::biased(g.psychrometer.0),
+        5 => g.count as u64,
+        POINTS..RATES => {
+            let k = i - POINTS;
+            let p = g.points[k];
+            pair_word(g.count, k, p.reading, p.correction.0)
+        }
+        RATES => g.anemometer.count as u64,
+        _ => {
+            let k = i - (RATES + 1);
+            let p = g.anemometer.points[k];
+            pair_word(g.anemometer.count, k, p.rate.0, p.speed)
+        }
     }
-    if i == 1 {
-        let height = g.height;
-        return cell::biased(height.0);
-    }
-    if i == 2 {
-        let difference = g.difference;
-        return cell::biased(difference.0);
-    }
-    if i == 3 {
-        let coefficient = g.coefficient;
-        return cell::biased(coefficient.0);
-    }
-    if i == 4 {
-        let psychrometer = g.psychrometer;
-        return cell::biased(psychrometer.0);
-    }
-    if i == 5 {
-        return g.count as u64;
-    }
-    if i < RATES {
-        let points = g.points;
-        return point_word(g.count, points, i - POINTS);
-    }
-    let anemometer = g.anemometer;
-    if i == RATES {
-        return anemometer.count as u64;
-    }
-    let rates = anemometer.points;
-    rate_word(anemometer.count, rates, i - (RATES + 1))
 }
 
 // Lays the settings into the block. Behind them it is all zeros: nothing is heard yet.
@@ -119,10 +88,8 @@ pub fn lay(store: &mut Store, g: Settings)
     ensures { store.new ≡ opened g }
 {
     *store = [0u64; WORDS];
-    let mut i: usize = 0;
-    while i < SETTINGS {
-        store[i] = setting_word(g, i);
-        i += 1;
+    for i in 0..SETTINGS {
+        store[i] = setting_word(&g, i);
     }
 }
 
@@ -132,21 +99,17 @@ pub fn lay(store: &mut Store, g: Settings)
 pub fn is_store(store: &Store) -> bool
     ensures { result ≡ is_store store.now }
 {
-    let w = store[0];
-    if w == MARK {
-        return true;
-    }
-    w == MARK + 1
+    store[0] == MARK || store[0] == MARK + 1
 }
 
 // The unit of the barometer.
 pub fn unit(store: &Store) -> BarometerUnit
     ensures { result ≡ unit_of store.now }
 {
-    if store[0] == MARK {
-        return BarometerUnit::Hectopascals;
+    match store[0] {
+        MARK => BarometerUnit::Hectopascals,
+        _ => BarometerUnit::Millimetres,
     }
-    BarometerUnit::Millimetres
 }
 
 // The settings, as the store was opened with them.
@@ -178,71 +141,57 @@ pub fn psychrometer(store: &Store) -> PsychrometerCoefficient
 pub fn points(store: &Store) -> u32
     ensures { result ≡ points_of store.now }
 {
-    let n = store[5];
-    if n < 16 { n as u32 } else { 16 }
+    store[5].min(settings::POINTS as u64) as u32
 }
 
 // A point of the certificate; past its end a point of zeros.
 pub fn point(store: &Store, i: u32) -> Point
     ensures { result ≡ point_of store.now i }
 {
-    if i < 16 {
-        let at = POINTS + i as usize;
-        let w = store[at];
+    let i = i as usize;
+    if i < settings::POINTS {
+        let w = store[POINTS + i];
         return Point {
             reading: cell::unbiased(w),
             correction: Correction(cell::unbiased(w / 65536)),
         };
     }
-    Point {
-        reading: Kept { v: 0 },
-        correction: Correction(Kept { v: 0 }),
-    }
+    Point::NOWHERE
 }
 
 // The points of the certificate, a word each. All of them are there: a block is long enough.
 pub fn certificate(store: &Store) -> &[u64]
     ensures { (result.now ≡ certificate_of store.now) × (length result.now ≡ points_of store.now) }
 {
-    let n = points(store) as usize;
-    let s = &store[..];
-    let to = POINTS + n;
-    &s[POINTS..to]
+    &store[POINTS..POINTS + points(store) as usize]
 }
 
 // The number of points of the anemometer's certificate: with none there is no anemometer.
 pub fn rates(store: &Store) -> u32
     ensures { result ≡ rates_of store.now }
 {
-    let n = store[RATES];
-    if n < 20 { n as u32 } else { 20 }
+    store[RATES].min(settings::RATES as u64) as u32
 }
 
-// A point of the anemometer's certificate; past its end a point of zeros.
+// A point of the anemometer's certificate; past its end a point of zeros. (It looks like `point`: one function for both types would need a
+// trait, and be longer than the two.)
 pub fn rate(store: &Store, i: u32) -> RatePoint
     ensures { result ≡ rate_of store.now i }
 {
-    if i < 20 {
-        let at = RATES + 1 + i as usize;
-        let w = store[at];
+    let i = i as usize;
+    if i < settings::RATES {
+        let w = store[RATES + 1 + i];
         return RatePoint {
             rate: Rate(cell::unbiased(w)),
             speed: cell::unbiased(w / 65536),
         };
     }
-    RatePoint {
-        rate: Rate(Kept { v: 0 }),
-        speed: Kept { v: 0 },
-    }
+    RatePoint::NONE
 }
 
 // The points of the anemometer's certificate, a word each.
 pub fn anemometer(store: &Store) -> &[u64]
     ensures { (result.now ≡ rate_words_of store.now) × (length result.now ≡ rates_of store.now) }
 {
-    let n = rates(store) as usize;
-    let s = &store[..];
-    let from = RATES + 1;
-    let to = from + n;
-    &s[from..to]
+    &store[RATES + 1..RATES + 1 + rates(store) as usize]
 }

@@ -19,7 +19,7 @@ abbrev pub Says : List ℕ → List ℕ → ℕ → Type 0
 Says sentence after r = Put (replicate SENTENCE 0) after 0 sentence r
 
 -- 11 also returns "channel, minute", 12 "minute".
-abbrev pub refused_text : Refusal → List ℕ
+unfoldable pub refused_text : Refusal → List ℕ
 refused_text r = cond (eqb r.number 11) (refusal_text r.number r.channel r.minute) (refusal_text r.number r.minute 0)
 
 -- Why there are none, or the figures.

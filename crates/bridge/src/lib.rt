@@ -6,7 +6,7 @@
 #![tactic(auto)]
 
 ghost use Rattle.std.specs.Prelude.{◌≡◌, ℕ, ℤ};
-ghost use Rattle.text.specs.Text.{Put};
+ghost use Rattle.text.specs.Text.{Puts};
 ghost use Rattle.spoken.specs.Refusals.{refusal_text};
 ghost use Rattle.desk.specs.Counting.{messages, HearsAll};
 ghost use Rattle.watchfile.specs.Format.{DewRule};
@@ -22,6 +22,7 @@ use filed::PlaceTold;
 use kept::{NewestTold, ReadingTold};
 use sheet::Sheet;
 use spoken::SENTENCE;
+use text::Page;
 use told::{HumidityTold, PressureTold, Refusal, TendencyTold, WindTold};
 
 // ---- settings and messages
@@ -42,8 +43,7 @@ pub fn zhitomrak_settings_of(store: &Store, settings: &mut Sheet) -> u32
 pub fn zhitomrak_hear_all(store: &mut Store, bytes: &[u8], counts: &mut [u64; NUMBERS])
     ensures { HearsAll store.old store.new (messages bytes.now) counts.old counts.new }
 {
-    let before = Counts { of: *counts };
-    let told = desk::hear_all(store, bytes, before);
+    let told = desk::hear_all(store, bytes, Counts { of: *counts });
     let after = told.of;
     *counts = after;
 }
@@ -100,20 +100,17 @@ pub fn zhitomrak_take_out(buffer: &mut [u8], size: usize, kind: u32, minute: u32
 // ---- what people read: a sentence in the lent bytes, with zeros behind it; its length
 
 // Puts why a question is refused.
-fn put_refused(text: &mut [u8], refusal: Refusal) -> usize
-    ensures { Put text.old text.new 0 (refused_text refusal) result }
+#[tactic(auto, unfolding(crate::specs::Sentences::refused_text))]
+fn put_refused(page: &mut Page<'_>, refusal: Refusal)
+    ensures { Puts page.old page.new (refused_text refusal) }
 {
     let number = refusal.number;
+    let minute = refusal.minute as u64;
     if number == 11 {
-        return spoken::put_refusal(
-            text,
-            0,
-            number,
-            refusal.channel as u64,
-            refusal.minute as u64,
-        );
+        spoken::put_refusal(page, number, refusal.channel as u64, minute);
+    } else {
+        spoken::put_refusal(page, number, minute, 0);
     }
-    spoken::put_refusal(text, 0, number, refusal.minute as u64, 0)
 }
 
 // A refusal, by its number and what it also returns, in their order.
@@ -126,7 +123,9 @@ pub fn zhitomrak_say_refusal(
     ensures { Says (refusal_text number first second) text.new result }
 {
     *text = [0u8; SENTENCE];
-    spoken::put_refusal(text, 0, number, first, second)
+    let mut page = Page::new(text);
+    spoken::put_refusal(&mut page, number, first, second);
+    page.at
 }
 
 // A pressure, or why there is none.
@@ -134,12 +133,13 @@ pub fn zhitomrak_say_pressure(told: PressureTold, text: &mut [u8; SENTENCE]) -> 
     ensures { Says (pressure_said told) text.new result }
 {
     *text = [0u8; SENTENCE];
-    let refusal = told.refusal;
-    if refusal.number != 0 {
-        return put_refused(text, refusal);
+    let mut page = Page::new(text);
+    if told.refusal.number != 0 {
+        put_refused(&mut page, told.refusal);
+        return page.at;
     }
-    let pressure = told.pressure;
-    spoken::put_pressure(text, 0, pressure)
+    spoken::put_pressure(&mut page, told.pressure);
+    page.at
 }
 
 // A tendency, or why there is none.
@@ -147,12 +147,13 @@ pub fn zhitomrak_say_tendency(told: TendencyTold, text: &mut [u8; SENTENCE]) -> 
     ensures { Says (tendency_said told) text.new result }
 {
     *text = [0u8; SENTENCE];
-    let refusal = told.refusal;
-    if refusal.number != 0 {
-        return put_refused(text, refusal);
+    let mut page = Page::new(text);
+    if told.refusal.number != 0 {
+        put_refused(&mut page, told.refusal);
+        return page.at;
     }
-    let change = told.change;
-    spoken::put_tendency(text, 0, change, told.absent)
+    spoken::put_tendency(&mut page, told.change, told.absent);
+    page.at
 }
 
 // A wind, or why there is none.
@@ -160,11 +161,13 @@ pub fn zhitomrak_say_wind(told: WindTold, text: &mut [u8; SENTENCE]) -> usize
     ensures { Says (wind_said told) text.new result }
 {
     *text = [0u8; SENTENCE];
-    let refusal = told.refusal;
-    if refusal.number != 0 {
-        return put_refused(text, refusal);
+    let mut page = Page::new(text);
+    if told.refusal.number != 0 {
+        put_refused(&mut page, told.refusal);
+        return page.at;
     }
-    spoken::put_wind(text, 0, told.speed, told.direction)
+    spoken::put_wind(&mut page, told.speed, told.direction);
+    page.at
 }
 
 // A humidity, or why there is none.
@@ -172,20 +175,20 @@ pub fn zhitomrak_say_humidity(told: HumidityTold, text: &mut [u8; SENTENCE]) -> 
     ensures { Says (humidity_said told) text.new result }
 {
     *text = [0u8; SENTENCE];
-    let refusal = told.refusal;
-    if refusal.number != 0 {
-        return put_refused(text, refusal);
+    let mut page = Page::new(text);
+    if told.refusal.number != 0 {
+        put_refused(&mut page, told.refusal);
+        return page.at;
     }
-    let dew = told.dew;
     spoken::put_humidity(
-        text,
-        0,
+        &mut page,
         told.e,
         told.saturation,
         told.deficit,
         told.relative,
-        dew,
-    )
+        told.dew,
+    );
+    page.at
 }
 
 // A reading, or why there is none.
@@ -193,10 +196,11 @@ pub fn zhitomrak_say_reading(told: ReadingTold, text: &mut [u8; SENTENCE]) -> us
     ensures { Says (reading_said told) text.new result }
 {
     *text = [0u8; SENTENCE];
-    let refusal = told.refusal;
-    if refusal.number != 0 {
-        return put_refused(text, refusal);
+    let mut page = Page::new(text);
+    if told.refusal.number != 0 {
+        put_refused(&mut page, told.refusal);
+        return page.at;
     }
-    let first = told.first;
-    spoken::put_reading(text, 0, told.channel, told.unit, first, told.second)
+    spoken::put_reading(&mut page, told.channel, told.unit, told.first, told.second);
+    page.at
 }

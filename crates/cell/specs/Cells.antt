@@ -1,12 +1,11 @@
 -- How a reading stands in a cell, and what a cell says: its first figure in the low half, its second in the high half of 32 bits, a
 -- state by its number.
-use Rattle.std.specs.Prelude.{Bool, true, false, ◌&&◌, ◌||◌, cond, ℕ, ◌+◌, ◌*◌, ◌/◌, ◌%◌, eqb, ltb, ℤ, pos, nat_abs, ◌+ℤ◌, ◌-ℤ◌}
+use Rattle.std.specs.Prelude.{Bool, true, false, ◌&&◌, ◌||◌, cond, ℕ, ◌+◌, ◌*◌, ◌/◌, ◌%◌, eqb, ltb, ℤ, pos, nat_abs, ◌+ℤ◌, ◌-ℤ◌, Option, Some, None}
 use Rattle.quantity.specs.Limits.{Limits, inside, pressure_limits, wheelhouse, bulb, metres_per_second, knots, degrees}
 use Rattle.quantity.specs.States.{state_number, is_state, state_of}
 use Rattle.quantity.specs.declared.BarometerUnit.{BarometerUnit}
 use Rattle.message.specs.Receive.{Figure, hPa, mmHg, °C, m/s, kn, deg, wick, none, by_unit, itself, nought, Entry, pressure, entry_of}
-use Rattle.cell.specs.declared.Recalled.{Recalled}
-use Rattle.cell.specs.declared.Recalled.TheVariants.{Missing, Kept}
+use Rattle.message.specs.declared.Reading.{Reading}
 
 abbrev pub CHANNELS : ℕ
 CHANNELS = 6
@@ -107,6 +106,6 @@ abbrev pub read_in : BarometerUnit → ℕ → ℕ → ℕ → Recall
 read_in u c m v = cond (ltb c CHANNELS) (cell_says u c m v) absent
 
 -- Document 01's values of each case.
-abbrev pub recalled_as : ℕ → Recalled → Recall
-recalled_as m Missing = absent
-recalled_as m (Kept r) = recalled (entry_of m r)
+abbrev pub recalled_as : ℕ → Option Reading → Recall
+recalled_as m None = absent
+recalled_as m (Some r) = recalled (entry_of m r)

@@ -14,13 +14,6 @@ use quantity::{
 
 pub const CHANNELS: usize = 6;
 
-// What is kept of a channel's minute.
-#[derive(Clone, Copy)]
-pub enum Recalled {
-    Missing,
-    Kept(Reading),
-}
-
 // ---- numbers with a sign
 
 // A number as a word, 32768 higher.
@@ -53,14 +46,8 @@ pub fn cell_of(r: Reading) -> u64
     ensures { (t : ℕ) → result ≡ cell_of (entry_of t r) }
 {
     match r {
-        Reading::Hectopascals(p) => {
-            let n = p.0;
-            n.size() % 65536
-        }
-        Reading::Millimetres(p) => {
-            let n = p.0;
-            n.number().size() % 65536
-        }
+        Reading::Hectopascals(p) => p.0.size() % 65536,
+        Reading::Millimetres(p) => p.0.number().size() % 65536,
         Reading::Wheelhouse(t) => biased(t.0) % 65536,
         Reading::ApparentWind(v, d) => pair_cell(v.0, d.0),
         Reading::ShipMotion(v, d) => pair_cell(v.0, d.0),
@@ -77,102 +64,81 @@ fn half(v: u64) -> u32
     (v % 65536) as u32
 }
 
-fn pressure_in(unit: BarometerUnit, v: u64) -> Recalled
+fn pressure_in(unit: BarometerUnit, v: u64) -> Option<Reading>
     ensures { (m : ℕ) → recalled_as m result ≡ cell_says unit 0 m v }
 {
     let n = Number::whole(half(v));
     match unit {
         BarometerUnit::Hectopascals => {
-            if Hectopascals::holds(n) {
-                return Recalled::Kept(Reading::Hectopascals(Hectopascals(n)));
-            }
-            Recalled::Missing
+            Hectopascals::holds(n).then_some(Reading::Hectopascals(Hectopascals(n)))
         }
         BarometerUnit::Millimetres => {
-            if Millimetres::holds(n) {
-                return Recalled::Kept(Reading::Millimetres(Millimetres(n.keep())));
-            }
-            Recalled::Missing
+            Millimetres::holds(n).then_some(Reading::Millimetres(Millimetres(n.keep())))
         }
     }
 }
 
-fn wheelhouse_in(v: u64) -> Recalled
+// (`dry_bulb_in` looks like it: each asks its own type's limits, and one function for both would be handed two closures.)
+fn wheelhouse_in(v: u64) -> Option<Reading>
     ensures { (u : BarometerUnit) (m : ℕ) → recalled_as m result ≡ cell_says u 1 m v }
 {
     let t = unbiased(v);
-    if WheelhouseTemperature::holds(t.number()) {
-        return Recalled::Kept(Reading::Wheelhouse(WheelhouseTemperature(t)));
-    }
-    Recalled::Missing
+    WheelhouseTemperature::holds(t.number()).then_some(Reading::Wheelhouse(WheelhouseTemperature(
+        t,
+    )))
 }
 
 // A speed and a direction: the ship's, or the apparent wind's.
-fn pair_in(ship: bool, v: u64) -> Recalled
+fn pair_in(ship: bool, v: u64) -> Option<Reading>
     ensures { (u : BarometerUnit) (m : ℕ) → recalled_as m result ≡ cell_says u (cond ship 3 2) m v }
 {
     let speed = half(v);
     let angle = half(v / 65536);
     if !Degrees::holds(Number::whole(angle)) {
-        return Recalled::Missing;
+        return None;
     }
+    let n = Number::whole(speed);
     if ship {
-        if Knots::holds(Number::whole(speed)) {
-            return Recalled::Kept(Reading::ShipMotion(Knots(speed), Degrees(angle)));
-        }
-        return Recalled::Missing;
+        Knots::holds(n).then_some(Reading::ShipMotion(Knots(speed), Degrees(angle)))
+    } else {
+        MetresPerSecond::holds(n).then_some(Reading::ApparentWind(
+            MetresPerSecond(speed),
+            Degrees(angle),
+        ))
     }
-    if MetresPerSecond::holds(Number::whole(speed)) {
-        return Recalled::Kept(Reading::ApparentWind(MetresPerSecond(speed), Degrees(angle)));
-    }
-    Recalled::Missing
 }
 
-fn dry_bulb_in(v: u64) -> Recalled
+fn dry_bulb_in(v: u64) -> Option<Reading>
     ensures { (u : BarometerUnit) (m : ℕ) → recalled_as m result ≡ cell_says u 4 m v }
 {
     let t = unbiased(v);
-    if BulbTemperature::holds(t.number()) {
-        return Recalled::Kept(Reading::DryBulb(BulbTemperature(t)));
-    }
-    Recalled::Missing
+    BulbTemperature::holds(t.number()).then_some(Reading::DryBulb(BulbTemperature(t)))
 }
 
-fn wet_bulb_in(v: u64) -> Recalled
+fn wet_bulb_in(v: u64) -> Option<Reading>
     ensures { (u : BarometerUnit) (m : ℕ) → recalled_as m result ≡ cell_says u 5 m v }
 {
     let state = half(v / 65536);
     if !BulbState::holds(state) {
-        return Recalled::Missing;
+        return None;
     }
     let t = unbiased(v);
-    if BulbTemperature::holds(t.number()) {
-        return Recalled::Kept(Reading::WetBulb(BulbState::numbered(state), BulbTemperature(t)));
-    }
-    Recalled::Missing
+    let told = Reading::WetBulb(BulbState::numbered(state), BulbTemperature(t));
+    BulbTemperature::holds(t.number()).then_some(told)
 }
 
 // What a cell of a channel says: nothing where the channel is none of the six, or where that lies outside its limits.
-pub fn reading_in(unit: BarometerUnit, channel: u32, v: u64) -> Recalled
+// (A channel is a number here and in the store: C hands it over, and the promise is about every number.)
+pub fn reading_in(unit: BarometerUnit, channel: u32, v: u64) -> Option<Reading>
     ensures { (m : ℕ) → recalled_as m result ≡ read_in unit channel m v }
 {
-    if channel == 0 {
-        return pressure_in(unit, v);
+    match channel {
+        0 => pressure_in(unit, v),
+        1 => wheelhouse_in(v),
+        2 => pair_in(false, v),
+        3 => pair_in(true, v),
+        4 => dry_bulb_in(v),
+        5 => wet_bulb_in(v),
+        _ => None,
     }
-    if channel == 1 {
-        return wheelhouse_in(v);
-    }
-    if channel == 2 {
-        return pair_in(false, v);
-    }
-    if channel == 3 {
-        return pair_in(true, v);
-    }
-    if channel == 4 {
-        return dry_bulb_in(v);
-    }
-    if channel == 5 {
-        return wet_bulb_in(v);
-    }
-    Recalled::Missing
 }

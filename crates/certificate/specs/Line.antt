@@ -1,15 +1,14 @@
 -- The law of the line, one for every certificate. The barometer's, document 01: "Scale correction: the straight line between the two
 -- certificate points round the reading, rounded to 0.1; at a point, that point's correction." The hand anemometer's, document 02, W5:
 -- "Speed is the straight line between the neighbouring points at the exact rate, rounded to 0.1."
-use Rattle.std.specs.Prelude.{Bool, not, ◌&&◌, cond, List, ℕ, zero, suc, ◌+◌, ◌-◌, ◌/◌, ℤ, pos, nat_abs, ◌+ℤ◌, ◌-ℤ◌, ◌*ℤ◌, get_or}
+use Rattle.std.specs.Prelude.{Bool, not, ◌&&◌, cond, List, ℕ, zero, suc, ◌+◌, ◌-◌, ◌/◌, ℤ, pos, nat_abs, ◌+ℤ◌, ◌-ℤ◌, ◌*ℤ◌, get_or, Option, Some, None}
 use Rattle.std.specs.Int.Signed.{le_z}
 use Rattle.number.specs.Round.{rounded}
 use Rattle.number.specs.Refusal.{Answer, refused, given}
 use Rattle.settings.specs.Settings.{every}
 use Rattle.cell.specs.Cells.{unbiased}
 use Rattle.certificate.specs.declared.Corner.{Corner}
-use Rattle.certificate.specs.declared.Valued.{Valued}
-use Rattle.certificate.specs.declared.Valued.TheVariants.{Value, NoneThere}
+use Rattle.number.specs.declared.Number.{Number}
 
 -- ---- two points
 
@@ -57,6 +56,6 @@ abbrev pub corner_at : ℕ → List ℕ → ℕ → Corner
 corner_at scale words i = corner_in scale (get_or words i 0)
 
 -- What each case says.
-abbrev pub valued_as : Valued → Answer (Unit {0}) ℤ
-valued_as (Value n) = given n.v
-valued_as NoneThere = refused tt
+abbrev pub valued_as : Option Number → Answer (Unit {0}) ℤ
+valued_as (Some n) = given n.v
+valued_as None = refused tt

@@ -16,14 +16,6 @@ pub struct Corner {
     pub gives: Number,
 }
 
-// What a certificate gives.
-#[derive(Clone, Copy)]
-pub enum Valued {
-    Value(Number),
-    // no two neighbouring points stand round it
-    NoneThere,
-}
-
 // The corner of a point, which is a word as a block holds it.
 fn corner_in(w: u64, scale: u16) -> Corner
     ensures { result ≡ corner_in scale w }
@@ -40,22 +32,14 @@ fn corner_in(w: u64, scale: u16) -> Corner
 fn around(p: Corner, q: Corner, x: Number) -> bool
     ensures { result ≡ stands p q x.v }
 {
-    let from = p.reads;
-    let to = q.reads;
-    if to.at_most(from) {
-        return false;
-    }
-    if !from.at_most(x) {
-        return false;
-    }
-    x.at_most(to)
+    p.reads < q.reads && p.reads <= x && x <= q.reads
 }
 
 // Whether x is at most what is read at a corner.
 fn up_to(p: Corner, x: Number) -> bool
     ensures { result ≡ le_z x.v p.reads.v }
 {
-    x.at_most(p.reads)
+    x <= p.reads
 }
 
 // What a corner gives, times a distance.
@@ -91,23 +75,20 @@ fn between(p: Corner, q: Corner, x: Number) -> Number
     line(p, q, x).over(distance)
 }
 
-// What a certificate gives at x: the straight line between the first two neighbouring points that stand round it, rounded. The points are
-// words as a block holds them; what they read is taken times `scale`.
+// What a certificate gives at x: the straight line between the first two neighbouring points that stand round it, rounded; none where no
+// two do. The points are words as a block holds them; what they read is taken times `scale`.
 // No pair stands round an x above its higher point, so that is tested first, and the lower point read after it.
-pub fn value_at(points: &[u64], scale: u16, x: Number) -> Valued
+pub fn value_at(points: &[u64], scale: u16, x: Number) -> Option<Number>
     ensures { valued_as result ≡ valued (corner_at scale points.now) (length points.now) x.v }
 {
-    let n = points.len();
-    let mut i: usize = 0;
-    while i + 1 < n {
-        let q = corner_in(points[i + 1], scale);
+    for i in 1..points.len() {
+        let q = corner_in(points[i], scale);
         if up_to(q, x) {
-            let p = corner_in(points[i], scale);
+            let p = corner_in(points[i - 1], scale);
             if around(p, q, x) {
-                return Valued::Value(between(p, q, x));
+                return Some(between(p, q, x));
             }
         }
-        i += 1;
     }
-    Valued::NoneThere
+    None
 }

@@ -19,14 +19,19 @@ use Rattle.hexadecimal.specs.Hex.{hex_value, is_hex}
 use Rattle.command.specs.Forms.{Told, told, fields_told, fits, list_told, word_told, may_end, line_told}
 use Rattle.command.specs.Commands.{by_table, command_of}
 use Rattle.values.specs.Values.{each, before_word, settings_of, records_of}
-use Rattle.command.specs.declared.Place.{Place}
+use Rattle.std.specs.Prelude.{Option, Some, None, Result, Ok, Err}
+use Rattle.line.specs.declared.Place.{Place}
+use Rattle.command.specs.declared.Verb.{Verb}
+use Rattle.command.specs.declared.Deed.{Deed}
+use Rattle.command.specs.declared.Fault.{Fault}
 use Rattle.command.specs.declared.Verb.TheVariants.{Open, Hear, Note, Wind, Read}
 use Rattle.command.specs.declared.Fault.TheVariants.{NotACommand, WordCount, NotSuch, Misshapen}
-use Rattle.command.specs.declared.Command.{Command}
-use Rattle.command.specs.declared.Command.TheVariants.{Nothing, Does, Wrong}
 
 abbrev place : ℕ → ℕ → Place
 place from to = record { from = from; to = to }
+
+abbrev does : Verb → ℕ → Result (Option Deed) Fault
+does verb words = Ok (Some (record { verb = verb; words = words }))
 
 abbrev number : ℤ → Kept
 number z = record { v = z }
@@ -40,16 +45,16 @@ rate_point rate speed = record { rate = record { 0 = number rate }; speed = numb
 -- a line, the command and the numbers that it says
 pub record Line : Type 0 where
   pub text : List ℕ
-  pub says : Told Command
+  pub says : Told (Result (Option Deed) Fault)
 
-abbrev row : List ℕ → Command → List ℕ → Line
+abbrev row : List ℕ → Result (Option Deed) Fault → List ℕ → Line
 row text outcome numbers = record { text = text; says = record { numbers = numbers; outcome = outcome } }
 
-abbrev said : List Line → List (Told Command)
+abbrev said : List Line → List (Told (Result (Option Deed) Fault))
 said [] = []
 said (l ∷ ls) = command_of l.text ∷ said ls
 
-abbrev expected : List Line → List (Told Command)
+abbrev expected : List Line → List (Told (Result (Option Deed) Fault))
 expected [] = []
 expected (l ∷ ls) = l.says ∷ expected ls
 
@@ -57,45 +62,45 @@ abbrev Right : List Line → Type 0
 Right ls = said ls ≡ expected ls
 
 pub the_commands : Right (
-    row (letters "") Nothing []
-    ∷ row (letters " \t# a remark") Nothing []
-    ∷ row (letters "hear 0a0B") (Does Hear 1) (0 ∷ [])
-    ∷ row (letters "read ") (Does Read 0) []
-    ∷ row (letters "  wind\t-0 ") (Does Wind 1) (0 ∷ [])
-    ∷ row (letters "note 820 45 9990 40 60") (Does Note 5) (820 ∷ 45 ∷ 9990 ∷ 40 ∷ 60 ∷ [])
+    row (letters "") (Ok None) []
+    ∷ row (letters " \t# a remark") (Ok None) []
+    ∷ row (letters "hear 0a0B") (does Hear 1) (0 ∷ [])
+    ∷ row (letters "read ") (does Read 0) []
+    ∷ row (letters "  wind\t-0 ") (does Wind 1) (0 ∷ [])
+    ∷ row (letters "note 820 45 9990 40 60") (does Note 5) (820 ∷ 45 ∷ 9990 ∷ 40 ∷ 60 ∷ [])
     ∷ [])
 unfolding before words_from more same every_digit whole hex_value is_hex told fields_told fits list_told word_told may_end line_told by_table command_of
 the_commands = refl
 
 -- the numbers of the words before the fault stay
 pub the_faults : Right (
-    row (letters "Wind 5") (Wrong (NotACommand (place 0 4))) []
-    ∷ row (letters "winds 5") (Wrong (NotACommand (place 0 5))) []
-    ∷ row (letters "note 820 45 9990 40") (Wrong WordCount) (820 ∷ 45 ∷ 9990 ∷ 40 ∷ [])
-    ∷ row (letters "wind 4294967295 1") (Wrong WordCount) (4294967295 ∷ [])
-    ∷ row (letters "wind 4294967296 1") (Wrong (NotSuch 0x6E (place 5 15))) []
-    ∷ row (letters "wind -1") (Wrong (NotSuch 0x6E (place 5 7))) []
-    ∷ row (letters "wind 1-") (Wrong (NotSuch 0x6E (place 5 7))) []
-    ∷ row (letters "wind -") (Wrong (NotSuch 0x6E (place 5 6))) []
-    ∷ row (letters "read 575") (Wrong (NotSuch 0x78 (place 5 8))) []
-    ∷ row (letters "read 57 54") (Wrong WordCount) (0 ∷ [])
-    ∷ row (letters "open inHg x") (Wrong (NotSuch 0x75 (place 5 9))) []
-    ∷ row (letters "open mmHg 2147483648") (Wrong (NotSuch 0x7A (place 10 20))) (1 ∷ [])
+    row (letters "Wind 5") (Err (NotACommand (place 0 4))) []
+    ∷ row (letters "winds 5") (Err (NotACommand (place 0 5))) []
+    ∷ row (letters "note 820 45 9990 40") (Err WordCount) (820 ∷ 45 ∷ 9990 ∷ 40 ∷ [])
+    ∷ row (letters "wind 4294967295 1") (Err WordCount) (4294967295 ∷ [])
+    ∷ row (letters "wind 4294967296 1") (Err (NotSuch 0x6E (place 5 15))) []
+    ∷ row (letters "wind -1") (Err (NotSuch 0x6E (place 5 7))) []
+    ∷ row (letters "wind 1-") (Err (NotSuch 0x6E (place 5 7))) []
+    ∷ row (letters "wind -") (Err (NotSuch 0x6E (place 5 6))) []
+    ∷ row (letters "read 575") (Err (NotSuch 0x78 (place 5 8))) []
+    ∷ row (letters "read 57 54") (Err WordCount) (0 ∷ [])
+    ∷ row (letters "open inHg x") (Err (NotSuch 0x75 (place 5 9))) []
+    ∷ row (letters "open mmHg 2147483648") (Err (NotSuch 0x7A (place 10 20))) (1 ∷ [])
     ∷ [])
 unfolding before words_from more same every_digit whole signed hex_value is_hex told fields_told fits list_told word_told may_end line_told by_table command_of
 the_faults = refl
 
 -- the words of lists
 pub the_lists : Right (
-    row (letters "open hPa 2147483647 -2147483648 -0 007 1:-2") (Does Open 6) (0 ∷ 4294967295 ∷ 0 ∷ 2147483648 ∷ 2147483655 ∷ 2147483649 ∷ 2147483646 ∷ [])
-    ∷ row (letters "open hPa 0 0 0 0 1") (Wrong (Misshapen (place 17 18))) (0 ∷ 2147483648 ∷ 2147483648 ∷ 2147483648 ∷ 2147483648 ∷ 2147483649 ∷ [])
-    ∷ row (letters "open hPa 0 0 0 0 1:2 anemometer 3:4") (Does Open 8) (0 ∷ 2147483648 ∷ 2147483648 ∷ 2147483648 ∷ 2147483648 ∷ 2147483649 ∷ 2147483650 ∷ 4294967296 ∷ 0 ∷ 2147483651 ∷ 2147483652 ∷ [])
-    ∷ row (letters "open hPa 0 0 0 anemometer") (Wrong (NotSuch 0x7A (place 15 25))) (0 ∷ 2147483648 ∷ 2147483648 ∷ 2147483648 ∷ [])
-    ∷ row (letters "open hPa 0 0 0 0 anemometers") (Wrong (NotSuch 0x7A (place 17 28))) (0 ∷ 2147483648 ∷ 2147483648 ∷ 2147483648 ∷ 2147483648 ∷ [])
-    ∷ row (letters "open hPa 0 0 0 0 anemometer:1") (Wrong (Misshapen (place 17 29))) (0 ∷ 2147483648 ∷ 2147483648 ∷ 2147483648 ∷ 2147483648 ∷ 4294967296 ∷ 0 ∷ [])
-    ∷ row (letters "write 9 P:5:98 p:6:9") (Wrong (Misshapen (place 15 20))) (9 ∷ 0x50 ∷ 5 ∷ 98 ∷ 0 ∷ 0 ∷ 0 ∷ 0 ∷ [])
-    ∷ row (letters "write 9 P:5:9:8") (Wrong (Misshapen (place 8 15))) (9 ∷ 0x50 ∷ 5 ∷ 9 ∷ 0 ∷ 0 ∷ 0 ∷ 0 ∷ [])
-    ∷ row (letters "write 9 T:180:-18:256") (Wrong (NotSuch 0x6F (place 8 21))) (9 ∷ 0x54 ∷ 180 ∷ 2147483630 ∷ [])
+    row (letters "open hPa 2147483647 -2147483648 -0 007 1:-2") (does Open 6) (0 ∷ 4294967295 ∷ 0 ∷ 2147483648 ∷ 2147483655 ∷ 2147483649 ∷ 2147483646 ∷ [])
+    ∷ row (letters "open hPa 0 0 0 0 1") (Err (Misshapen (place 17 18))) (0 ∷ 2147483648 ∷ 2147483648 ∷ 2147483648 ∷ 2147483648 ∷ 2147483649 ∷ [])
+    ∷ row (letters "open hPa 0 0 0 0 1:2 anemometer 3:4") (does Open 8) (0 ∷ 2147483648 ∷ 2147483648 ∷ 2147483648 ∷ 2147483648 ∷ 2147483649 ∷ 2147483650 ∷ 4294967296 ∷ 0 ∷ 2147483651 ∷ 2147483652 ∷ [])
+    ∷ row (letters "open hPa 0 0 0 anemometer") (Err (NotSuch 0x7A (place 15 25))) (0 ∷ 2147483648 ∷ 2147483648 ∷ 2147483648 ∷ [])
+    ∷ row (letters "open hPa 0 0 0 0 anemometers") (Err (NotSuch 0x7A (place 17 28))) (0 ∷ 2147483648 ∷ 2147483648 ∷ 2147483648 ∷ 2147483648 ∷ [])
+    ∷ row (letters "open hPa 0 0 0 0 anemometer:1") (Err (Misshapen (place 17 29))) (0 ∷ 2147483648 ∷ 2147483648 ∷ 2147483648 ∷ 2147483648 ∷ 4294967296 ∷ 0 ∷ [])
+    ∷ row (letters "write 9 P:5:98 p:6:9") (Err (Misshapen (place 15 20))) (9 ∷ 0x50 ∷ 5 ∷ 98 ∷ 0 ∷ 0 ∷ 0 ∷ 0 ∷ [])
+    ∷ row (letters "write 9 P:5:9:8") (Err (Misshapen (place 8 15))) (9 ∷ 0x50 ∷ 5 ∷ 9 ∷ 0 ∷ 0 ∷ 0 ∷ 0 ∷ [])
+    ∷ row (letters "write 9 T:180:-18:256") (Err (NotSuch 0x6F (place 8 21))) (9 ∷ 0x54 ∷ 180 ∷ 2147483630 ∷ [])
     ∷ [])
 unfolding before words_from more same every_digit whole signed told fields_told fits list_told word_told may_end line_told by_table command_of
 the_lists = refl

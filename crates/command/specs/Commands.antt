@@ -1,13 +1,13 @@
 -- The commands of the console: from a line to a command and its numbers, or to the first fault from the left.
-use Rattle.std.specs.Prelude.{Bool, false, cond, List, [], ◌∷◌, ◌++◌, ℕ, suc, eqb, get_or, drop}
+use Rattle.std.specs.Prelude.{Bool, false, cond, List, [], ◌∷◌, ◌++◌, ℕ, suc, eqb, get_or, drop, Option, None, Result, Ok, Err}
 use Prim.Native.String.{String}
 use Rattle.text.specs.Letters.{letters}
 use Rattle.line.specs.Words.{Word, words, same}
 use Rattle.command.specs.declared.Verb.{Verb}
 use Rattle.command.specs.declared.Verb.TheVariants.{Open, Hear, Note, Pressure, Tendency, Wind, Humidity, Read, Write}
+use Rattle.command.specs.declared.Fault.{Fault}
 use Rattle.command.specs.declared.Fault.TheVariants.{NotACommand}
-use Rattle.command.specs.declared.Command.{Command}
-use Rattle.command.specs.declared.Command.TheVariants.{Nothing, Wrong}
+use Rattle.command.specs.declared.Deed.{Deed}
 use Rattle.command.specs.Forms.{Told, ends, line_told, place_of}
 
 -- A command: its name, its verb, and the form of the words behind its name.
@@ -33,8 +33,8 @@ table =
     ∷ []
 
 -- The command of the first row whose name a word is; whatever is in no row is no command.
-unfoldable pub by_table : List Row → Word → List Word → Told Command
-by_table [] w ws = ends (Wrong (NotACommand (place_of w)))
+unfoldable pub by_table : List Row → Word → List Word → Told (Result (Option Deed) Fault)
+by_table [] w ws = ends (Err (NotACommand (place_of w)))
 by_table (r ∷ rs) w ws = cond (same w.bytes r.name) (line_told r.verb r.form 0 ws) (by_table rs w ws)
 
 -- A word that begins with `#` (23).
@@ -43,11 +43,11 @@ remark [] = false
 remark (b ∷ s) = eqb b 0x23
 
 -- A line without words, or whose first word begins with `#`, is nothing.
-abbrev pub command_from : List Word → Told Command
-command_from [] = ends Nothing
-command_from (w ∷ ws) = cond (remark w.bytes) (ends Nothing) (by_table table w ws)
+abbrev pub command_from : List Word → Told (Result (Option Deed) Fault)
+command_from [] = ends (Ok None)
+command_from (w ∷ ws) = cond (remark w.bytes) (ends (Ok None)) (by_table table w ws)
 
-unfoldable pub command_of : List ℕ → Told Command
+unfoldable pub command_of : List ℕ → Told (Result (Option Deed) Fault)
 command_of line = command_from (words line)
 
 -- ---- the table as a text: a name, and a form behind `=`, row by row, each row's verb at its place

@@ -4,9 +4,10 @@
 
 use anemometer::Note;
 use block::Store;
-use command::{Command, Verb};
+use command::Verb;
 use std::io;
 use std::io::Read;
+use text::Page;
 
 // The longest line. The most bytes that it says in hex, so `unhex` finds room; more than any answer and any watch file.
 const LINE: usize = 8192;
@@ -20,35 +21,39 @@ fn short(n: u64) -> u32 {
 
 // The first n bytes, or all.
 fn first(bytes: &[u8], n: usize) -> &[u8] {
-    let k = number::smaller(n, bytes.len());
-    &bytes[..k]
+    &bytes[..n.min(bytes.len())]
 }
 
-fn tell(rt: &impl Print, text: &[u8; BYTES], n: usize) -> io::Result<()> {
-    rt.write_all(first(text, n))
+fn tell(rt: &impl Print, page: &Page<'_>) -> io::Result<()> {
+    rt.write_all(first(page.text, page.at))
 }
 
 // A refused opening leaves the store that was open.
 fn open(rt: &impl Print, store: &mut Store, numbers: &[u64], words: usize) -> io::Result<()> {
     let mut text = [0u8; BYTES];
-    let r = station::open(store, values::settings_of(numbers, words));
-    let n = answer::put_opening(&mut text, 0, r);
-    tell(rt, &text, n)
+    let mut page = Page::new(&mut text);
+    answer::put_opening(
+        &mut page,
+        station::open(store, values::settings_of(numbers, words)),
+    );
+    tell(rt, &page)
 }
 
 fn hear(rt: &impl Print, store: &mut Store, word: &[u8]) -> io::Result<()> {
     let mut bytes = [0u8; BYTES];
-    if let hexadecimal::Unhexed::Bytes(n) = hexadecimal::unhex(word, &mut bytes) {
-        let r = station::hear(store, first(&bytes, n));
-        let k = answer::put_hearing(&mut bytes, 0, r);
-        tell(rt, &bytes, k)?;
-    }
-    Ok(())
+    let Ok(n) = hexadecimal::unhex(word, &mut bytes) else {
+        return Ok(());
+    };
+    let heard = station::hear(store, first(&bytes, n));
+    let mut page = Page::new(&mut bytes);
+    answer::put_hearing(&mut page, heard);
+    tell(rt, &page)
 }
 
 // Hears the entry that the first five numbers say.
 fn note(rt: &impl Print, store: &mut Store, numbers: &[u64; command::NUMBERS]) -> io::Result<()> {
     let mut text = [0u8; BYTES];
+    let mut page = Page::new(&mut text);
     let n = Note {
         minute: short(numbers[0]),
         direction: short(numbers[1]),
@@ -56,30 +61,30 @@ fn note(rt: &impl Print, store: &mut Store, numbers: &[u64; command::NUMBERS]) -
         second: short(numbers[3]),
         seconds: short(numbers[4]),
     };
-    let r = station::note(store, n);
-    let k = answer::put_noting(&mut text, 0, r);
-    tell(rt, &text, k)
+    answer::put_noting(&mut page, station::note(store, n));
+    tell(rt, &page)
 }
 
 // Asks the question of a verb.
 fn ask(rt: &impl Print, store: &Store, verb: Verb, m: u32) -> io::Result<()> {
     let mut text = [0u8; BYTES];
-    let n = match verb {
-        Verb::Pressure => answer::put_pressure(&mut text, 0, m, station::pressure(store, m)),
-        Verb::Tendency => answer::put_tendency(&mut text, 0, m, station::tendency(store, m)),
-        Verb::Wind => answer::put_wind(&mut text, 0, m, station::wind(store, m)),
-        _ => answer::put_humidity(&mut text, 0, m, station::humidity(store, m)),
-    };
-    tell(rt, &text, n)
+    let mut page = Page::new(&mut text);
+    match verb {
+        Verb::Pressure => answer::put_pressure(&mut page, m, station::pressure(store, m)),
+        Verb::Tendency => answer::put_tendency(&mut page, m, station::tendency(store, m)),
+        Verb::Wind => answer::put_wind(&mut page, m, station::wind(store, m)),
+        _ => answer::put_humidity(&mut page, m, station::humidity(store, m)),
+    }
+    tell(rt, &page)
 }
 
 // Lists the watch file that a word in hex says.
 fn read(rt: &impl Print, word: &[u8]) -> io::Result<()> {
     let mut file = [0u8; BYTES];
     let mut text = [0u8; BYTES];
-    if let hexadecimal::Unhexed::Bytes(size) = hexadecimal::unhex(word, &mut file) {
-        if let listing::Listed::Text(n) = listing::list(first(&file, size), &mut text) {
-            tell(rt, &text, n)?;
+    if let Ok(size) = hexadecimal::unhex(word, &mut file) {
+        if let Ok(n) = listing::list(first(&file, size), &mut text) {
+            rt.write_all(first(&text, n))?;
         }
     }
     Ok(())
@@ -94,17 +99,16 @@ fn write(
     file: &mut [u8],
 ) -> io::Result<()> {
     let mut text = [0u8; BYTES];
+    let mut page = Page::new(&mut text);
     let records = values::records_of(numbers, words);
-    let count = if words > 0 { words - 1 } else { 0 };
-    let most = number::smaller(room, file.len());
-    let r = watchlog::write(&mut file[..most], records, count);
-    let n = match r {
-        writer::Written::Done(size) => answer::put_written(&mut text, 0, r, first(file, size)),
-        _ => answer::put_written(&mut text, 0, r, b""),
-    };
-    tell(rt, &text, n)
+    let count = words.saturating_sub(1);
+    let most = room.min(file.len());
+    let written = watchlog::write(&mut file[..most], records, count);
+    answer::put_written(&mut page, written, first(file, written.unwrap_or(0)));
+    tell(rt, &page)
 }
 
+// (n is one more than the longest where the line was longer; then its bytes are not looked at.)
 // Does what a line of n bytes says. To hear and to ask there has to be a store, which a good opening makes.
 fn answer_line(rt: &impl Print, bytes: &[u8], n: usize, store: &mut Store) -> io::Result<()> {
     if n > LINE {
@@ -116,27 +120,23 @@ fn answer_line(rt: &impl Print, bytes: &[u8], n: usize, store: &mut Store) -> io
     let word = line::word(line, 1);
     let command = command::parse(line, &mut numbers);
     let m = short(numbers[0]);
-    match command {
-        Command::Nothing => Ok(()),
-        Command::Wrong(fault) => {
-            let k = notice::put_fault(&mut text, 0, fault);
-            tell(rt, &text, k)
+    let deed = match command {
+        Ok(Some(deed)) => deed,
+        Ok(None) => return Ok(()),
+        Err(fault) => {
+            let mut page = Page::new(&mut text);
+            notice::put_fault(&mut page, fault);
+            return tell(rt, &page);
         }
-        Command::Does(verb, words) => match verb {
-            Verb::Open => open(rt, store, &numbers, words),
-            Verb::Read => read(rt, word),
-            Verb::Write => write(rt, &numbers, words, m as usize, &mut text),
-            _ => {
-                if !block::is_store(store) {
-                    return println!(rt; "no store is open");
-                }
-                match verb {
-                    Verb::Hear => hear(rt, store, word),
-                    Verb::Note => note(rt, store, &numbers),
-                    _ => ask(rt, store, verb, m),
-                }
-            }
-        },
+    };
+    match deed.verb {
+        Verb::Open => open(rt, store, &numbers, deed.words),
+        Verb::Read => read(rt, word),
+        Verb::Write => write(rt, &numbers, deed.words, m as usize, &mut text),
+        _ if !block::is_store(store) => println!(rt; "no store is open"),
+        Verb::Hear => hear(rt, store, word),
+        Verb::Note => note(rt, store, &numbers),
+        verb => ask(rt, store, verb, m),
     }
 }
 

@@ -9,36 +9,31 @@ use Rattle.number.proofs.Sizes.{impossible}
 use Rattle.quantity.specs.Limits.{inside, recorded_pressure}
 use Rattle.settings.specs.Settings.{checked}
 use Rattle.settings.specs.declared.Settings.{Settings}
-use Rattle.wind.specs.declared.TrueWind.TheVariants.{Blows}
+use Rattle.std.specs.Prelude.{Option, Some, Ok, Err}
+use Rattle.wind.specs.declared.Wind.{Wind}
 use Rattle.vapour.proofs.TablesExist.{the_tables}
 use Rattle.store.specs.History.{Sent}
 use Rattle.station.specs.Source.{heard}
 use Rattle.station.specs.Questions.{Asked, pressure, tendency, wind, humidity, question, Reply, Tells}
 use Rattle.station.specs.Told.{Change}
-use Rattle.station.specs.declared.PressureAnswer.TheVariants as pressed
-use Rattle.station.specs.declared.TendencyAnswer.TheVariants as changed
-use Rattle.station.specs.declared.WindAnswer.TheVariants as blew
-use Rattle.station.specs.declared.HumidityAnswer.TheVariants as moist
 use Rattle.watchfile.specs.Format.{DewRule, record_right}
 use Rattle.watchfile.specs.declared.Record.{Record}
 use Rattle.watchfile.proofs.DewRules.{the_rule}
 use Rattle.desk.specs.Records.{pressure_record, tendency_record, wind_record, humidity_record}
 use Rattle.desk.specs.Entries.{pressure_entry, tendency_entry, wind_entry, humidity_entry}
-use Rattle.desk.specs.declared.Entry.{Entry}
-use Rattle.desk.specs.declared.Entry.TheVariants as entry
 use Rattle.desk.proofs.FitTheorems.{pressure_fits, tendency_fits, wind_fits, humidity_fits}
 use Rattle.demands.specs.Working.{Enters}
 use Rattle.demands.specs.Demands.{RecordOf}
 use Rattle.demands.proofs.RecordLaws.{pressure_inside, pressure_record_lem, tendency_record_lem, wind_record_lem, humidity_record_lem}
 
 -- what the desk's contracts say
-entry_of : (q : Asked) → ℕ → Reply q → Entry
+entry_of : (q : Asked) → ℕ → Reply q → Option Record
 entry_of pressure = pressure_entry
 entry_of tendency = tendency_entry
 entry_of wind = wind_entry
 entry_of humidity = humidity_entry
 
-enters : (q : Asked) (m : ℕ) (x : Reply q) (e : Entry) → Enters q m x e → e ≡ entry_of q m x
+enters : (q : Asked) (m : ℕ) (x : Reply q) (e : Option Record) → Enters q m x e → e ≡ entry_of q m x
 unfolding entry_of
 enters pressure m x e w = let which = w.5 in rw (sym which.0, sym which.1, sym which.2) w.4
 enters tendency m x e w = let which = w.5 in rw (sym which.0, sym which.1, sym which.2) w.4
@@ -51,17 +46,17 @@ own_sign (pos n) e = refl
 own_sign (negsuc n) e = impossible (cc)
 
 -- the record of an entry
-record Recorded (q : Asked) (m : ℕ) (f : (question q).Figures) (e : Entry) : Type 0 where
+record Recorded (q : Asked) (m : ℕ) (f : (question q).Figures) (e : Option Record) : Type 0 where
   the_record : Record
-  entered : e ≡ entry.Record the_record
+  entered : e ≡ Some the_record
   of_figures : RecordOf q m f the_record
   right : (dew : ℕ → ℤ) → DewRule dew → record_right dew 0 the_record ≡ true
 
 module _ (g : Settings) (good : checked g ≡ given tt) (M : List Sent) (m : ℕ) where
   made : (q : Asked) (x : Reply q) → Tells q (heard g M) m x → (f : (question q).Figures) → (question q).told x ≡ given f → Recorded q m f (entry_of q m x)
   unfolding entry_of
-  made pressure (pressed.Refused n) w f e = impossible (cc)
-  made pressure (pressed.Given p) w f e =
+  made pressure (Err n) w f e = impossible (cc)
+  made pressure (Ok p) w f e =
       let is : p.0.v ≡ f = cc in
       let told = w the_tables.0 the_tables.1 in
       let within = pressure_inside g good M m p.0.v told in
@@ -71,28 +66,28 @@ module _ (g : Settings) (good : checked g ≡ given tt) (M : List Sent) (m : ℕ
         of_figures = (subst (λ (z : ℤ). z ≡ pos (nat_abs z)) is (own_sign p.0.v within), ap (pressure_record m) is);
         right = λ dew ruled. pressure_record_lem g good M m p.0.v told dew;
       }
-  made tendency (changed.Refused n) w f e = impossible (cc)
-  made tendency (changed.Given c n) w f e =
-      let t : Change = record { change = c.0.v; absent = n } in
+  made tendency (Err n) w f e = impossible (cc)
+  made tendency (Ok b) w f e =
+      let t : Change = record { change = b.change.0.v; absent = b.absent } in
       let is : t ≡ f = cc in
       let told = w the_tables.0 the_tables.1 in
       record {
         the_record = tendency_record m t;
-        entered = tendency_fits the_rule.0 0 m c n (tendency_record_lem g good M m t told the_rule.0);
+        entered = tendency_fits the_rule.0 0 m b (tendency_record_lem g good M m t told the_rule.0);
         of_figures = ap (tendency_record m) is;
         right = λ dew ruled. tendency_record_lem g good M m t told dew;
       }
-  made wind (blew.Refused n) w f e = impossible (cc)
-  made wind (blew.Given v d) w f e =
+  made wind (Err n) w f e = impossible (cc)
+  made wind (Ok b) w f e =
       let told = w the_tables.0 the_tables.1 in
       record {
-        the_record = wind_record m v d;
-        entered = wind_fits the_rule.0 0 m v d (wind_record_lem g good M m v d told the_rule.0);
-        of_figures = let is : Blows v d ≡ f = cc in subst (λ y. RecordOf wind m y (wind_record m v d)) is refl;
-        right = λ dew ruled. wind_record_lem g good M m v d told dew;
+        the_record = wind_record m b.speed b.direction;
+        entered = wind_fits the_rule.0 0 m b (wind_record_lem g good M m b told the_rule.0);
+        of_figures = let is : b ≡ f = cc in ap (λ (y : Wind). wind_record m y.speed y.direction) is;
+        right = λ dew ruled. wind_record_lem g good M m b told dew;
       }
-  made humidity (moist.Refused n) w f e = impossible (cc)
-  made humidity (moist.Given h) w f e =
+  made humidity (Err n) w f e = impossible (cc)
+  made humidity (Ok h) w f e =
       record {
         the_record = humidity_record m h;
         entered = humidity_fits the_rule.0 0 m the_rule.1 h (humidity_record_lem g good M m h w the_rule.0 the_rule.1);
@@ -100,8 +95,8 @@ module _ (g : Settings) (good : checked g ≡ given tt) (M : List Sent) (m : ℕ
         right = λ dew ruled. humidity_record_lem g good M m h w dew ruled;
       }
 
-  pub recorded : (q : Asked) (x : Reply q) → Tells q (heard g M) m x → (e : Entry) → Enters q m x e → (f : (question q).Figures) → (question q).told x ≡ given f
-      → (r : Record) × (e ≡ entry.Record r) × (RecordOf q m f r) × ((dew : ℕ → ℤ) → DewRule dew → record_right dew 0 r ≡ true)
+  pub recorded : (q : Asked) (x : Reply q) → Tells q (heard g M) m x → (e : Option Record) → Enters q m x e → (f : (question q).Figures) → (question q).told x ≡ given f
+      → (r : Record) × (e ≡ Some r) × (RecordOf q m f r) × ((dew : ℕ → ℤ) → DewRule dew → record_right dew 0 r ≡ true)
   recorded q x w e v f is =
       let a = made q x w f is in
       (a.the_record, enters q m x e v ∙ a.entered, a.of_figures, a.right)

@@ -19,11 +19,11 @@ use Rattle.anemometer.specs.declared.Note.{Note}
 use Rattle.store.specs.Block.{heard_as, outcome, wind_channel, course_channel}
 use Rattle.store.specs.Noting.{noting}
 use Rattle.store.specs.History.{Sent, note, history, remembered, entered, store_of}
-use Rattle.store.specs.declared.Hearing.TheVariants.{Heard}
+use Rattle.std.specs.Prelude.{Ok}
 use Rattle.store.proofs.StoreTheorems.{stranger, entry_remembered}
 use Rattle.vapour.proofs.TablesExist.{the_tables}
 use Rattle.wind.specs.Answer.{IsWind}
-use Rattle.wind.specs.declared.TrueWind.{TrueWind}
+use Rattle.wind.specs.declared.Wind.{Wind}
 use Rattle.station.specs.Source.{Source, heard}
 use Rattle.station.specs.Questions.{question, wind, Reply, Answers, wind_tests, WindRule}
 use Rattle.heard.specs.Feeds.{tests_of_entry, would_note}
@@ -37,12 +37,12 @@ outcome_given : (a : Answer Numbered Entry) → given tt ≡ outcome a → (e : 
 outcome_given (refused n) h = impossible (cc)
 outcome_given (given e) h = (e, refl)
 
-module _ (g : Settings) (M : List Sent) (b : List ℕ) (w : Working g M b) (n : Note) (b' : List ℕ) (v : Notes b n Heard b') where
+module _ (g : Settings) (M : List Sent) (b : List ℕ) (w : Working g M b) (n : Note) (b' : List ℕ) (v : Notes b n (Ok tt) b') where
   -- no test refused it
   passed : answer (tests_of_entry g M n) (would_note g M n) ≡ given (would_note g M n)
   unfolding entered
   passed =
-      let told = outcome_given (noting (store_of g M) n) (note_answer b n Heard b' v ∙ ap (λ (s : List ℕ). outcome (noting s n)) (block g M b w)) in
+      let told = outcome_given (noting (store_of g M) n) (note_answer b n (Ok tt) b' v ∙ ap (λ (s : List ℕ). outcome (noting s n)) (block g M b w)) in
       let is = sym (entry_by_messages g (good g M b w) M n) ∙ told.1 in
       is ∙ ap given (sym (given_is (tests_of_entry g M n) (would_note g M n) told.0 is))
 
@@ -67,14 +67,14 @@ module _ (g : Settings) (M : List Sent) (b : List ℕ) (w : Working g M b) (n : 
   unfolding answer
   no_refusal = rw (in_time, felt, moved, there)
 
-  pub entered_wind : (x : Reply wind) (b'' : List ℕ) → Asks wind b' n.minute x b'' → (w : TrueWind) × ((question wind).told x ≡ given w) × (WindOfEntry g M n w)
+  pub entered_wind : (x : Reply wind) (b'' : List ℕ) → Asks wind b' n.minute x b'' → (w : Wind) × ((question wind).told x ≡ given w) × (WindOfEntry g M n w)
   unfolding Working Answers
   entered_wind x b'' a =
       go ((question wind).told x) (replies wind g (note n ∷ M) n.minute x (record { block = b'; after = b''; working = working; asks = a }) the_tables.0 the_tables.1)
     where
       working : Working g (note n ∷ M) b'
-      working = (b, w, (Heard, v))
+      working = (b, w, (Ok tt, v))
 
-      go : (r : Answer Numbered TrueWind) → Answers (wind_tests S n.minute) (WindRule S n.minute) r → (w : TrueWind) × (r ≡ given w) × (WindOfEntry g M n w)
+      go : (r : Answer Numbered Wind) → Answers (wind_tests S n.minute) (WindRule S n.minute) r → (w : Wind) × (r ≡ given w) × (WindOfEntry g M n w)
       go (refused k) e = given_not_refused (sym no_refusal ∙ e)
       go (given w) e = (w, refl, rw (felt, moved) at e.1)

@@ -11,8 +11,8 @@ use Rattle.number.proofs.Sizes.{and_true, impossible, never}
 use Rattle.quantity.specs.Limits.{three_hours}
 use Rattle.settings.specs.declared.Settings.{Settings}
 use Rattle.cell.specs.Cells.{CHANNELS, absent, recalled_as, is_present}
-use Rattle.cell.specs.declared.Recalled.{Recalled}
-use Rattle.cell.specs.declared.Recalled.TheVariants.{Missing, Kept}
+use Rattle.std.specs.Prelude.{Option, Some, None}
+use Rattle.message.specs.declared.Reading.{Reading}
 use Rattle.store.specs.Block.{recall_of}
 use Rattle.store.proofs.HistoryLaws.{store_remembers}
 use Rattle.store.proofs.StoreTheorems.{stays_absent_on}
@@ -119,11 +119,11 @@ module _ (g : Settings) (M N : List Sent) (c j : ℕ) (p : Passed g M c j) where
           ∙ (store_remembers g (good g (N ++ M) b w) (N ++ M)).cells c (ltb-true c CHANNELS h) j ∙ missing
       go false h = rw h
 
-  only_missing : (x : Recalled) → recalled_as j x ≡ absent → x ≡ Missing
-  only_missing Missing e = refl
-  only_missing (Kept r) e = impossible (cc)
+  only_missing : (x : Option Reading) → recalled_as j x ≡ absent → x ≡ None
+  only_missing None e = refl
+  only_missing (Some r) e = impossible (cc)
 
-  pub recall_missing : (b : List ℕ) → Working g (N ++ M) b → (x : Recalled) → Recalls b c j x → x ≡ Missing
+  pub recall_missing : (b : List ℕ) → Working g (N ++ M) b → (x : Option Reading) → Recalls b c j x → x ≡ None
   recall_missing b w x v =
       let which = v.5 in
       let at = v.1 in

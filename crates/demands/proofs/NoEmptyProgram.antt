@@ -19,8 +19,7 @@ use Rattle.store.specs.Block.{hearing, heard_by, outcome, recall_of}
 use Rattle.store.specs.Noting.{noted_by}
 use Rattle.store.specs.History.{Sent, bytes, note, store_of}
 use Rattle.store.proofs.OpenLaws.{opens}
-use Rattle.wind.specs.declared.TrueWind.{TrueWind}
-use Rattle.wind.specs.declared.TrueWind.TheVariants.{Blows, OutsideLimits}
+use Rattle.wind.specs.declared.Wind.{Wind}
 use Rattle.humidity.specs.declared.HumidityFigures.{HumidityFigures}
 use Rattle.station.specs.Source.{heard}
 use Rattle.station.specs.Questions.{Asked, pressure, tendency, wind, humidity, question, Reply, Tells, TellsOf}
@@ -61,9 +60,8 @@ given_once ask u x e r = let f = (r u).1 in impossible (cc)
 apart : pos 10 ≡ neg_ℤ (pos 10) → ⊥
 apart e = impossible (cc)
 
-abbrev speed : TrueWind → ℕ
-speed (Blows v d) = v.0
-speed OutsideLimits = 0
+abbrev speed : Wind → ℕ
+speed w = w.speed.0
 
 abbrev absent : Change → ℕ
 absent t = t.absent

@@ -14,8 +14,8 @@ use Rattle.message.specs.Receive.{Entry}
 use Rattle.settings.specs.Settings.{checked, checked_as}
 use Rattle.settings.specs.Settings as settings
 use Rattle.settings.specs.declared.Settings.{Settings}
-use Rattle.settings.specs.declared.Checked.{Checked}
-use Rattle.settings.specs.declared.Checked.TheVariants as opening
+use Rattle.std.specs.Prelude.{Result, Ok, Err}
+use Rattle.settings.specs.declared.SettingsRefusal.{SettingsRefusal}
 use Rattle.settings.proofs.SingleAnswers.{case_of, case_back}
 use Rattle.wire.specs.declared.MessageRefusal.TheVariants.{NotSixteenBytes, NoSuchChannel, ByteNotZero, NoSuchState, MinuteTooLate, NotFinite, OutsideLimits}
 use Rattle.anemometer.specs.Anemometer.{certificate_held, no_speed}
@@ -24,8 +24,8 @@ use Rattle.store.specs.Block.{wind_channel, opened_by, no_store, next_in, hearin
 use Rattle.store.specs.Noting.{wind_entry, note_tests, course_at, noting, noted_by}
 use Rattle.store.specs.History.{Sent, store_of}
 use Rattle.store.proofs.NotingLaws.{noted_refused}
-use Rattle.store.specs.declared.Hearing.{Hearing}
-use Rattle.store.specs.declared.Hearing.TheVariants.{Heard, Refused, Repeated, Late, OutsideDial, NoCourse, OutsideAnemometer, NoStore}
+use Rattle.store.specs.declared.HearingRefusal.{HearingRefusal}
+use Rattle.store.specs.declared.HearingRefusal.TheVariants.{Message, Repeated, Late, OutsideDial, NoCourse, OutsideAnemometer, NoStore}
 use Rattle.store.proofs.StoreTheorems.{refused_changes_nothing}
 use Rattle.station.specs.Source.{heard}
 use Rattle.station.specs.Questions.{question}
@@ -41,7 +41,7 @@ use Rattle.watchfile.specs.declared.Record.{Record}
 use Rattle.watchfile.proofs.DewRules.{the_rule}
 use Rattle.handed.specs.Words.{records_in}
 use Rattle.writer.specs.Write.{offered, written_as}
-use Rattle.writer.specs.declared.Written.{Written}
+use Rattle.writer.specs.declared.WriteRefusal.{WriteRefusal}
 use Rattle.writer.proofs.RefusalsInOrder.{writes_in_order}
 use Rattle.writer.proofs.WriteTheorems.{refused_leaves_every_byte}
 use Rattle.reader.proofs.RefusalsInOrder.{read_refused}
@@ -58,7 +58,7 @@ use Rattle.demands.proofs.MissingLaws.{missing, recall_missing, answer_missing}
 
 -- ---- 1
 
-by_settings : (b : List ℕ) (g : Settings) (c : Checked) (b' : List ℕ) → Opens b g c b' → (n : ℕ) → (checked_as c ≡ refused n) ↔ First (settings.tests g) n
+by_settings : (b : List ℕ) (g : Settings) (c : Result (Unit {0}) SettingsRefusal) (b' : List ℕ) → Opens b g c b' → (n : ℕ) → (checked_as c ≡ refused n) ↔ First (settings.tests g) n
 unfolding checked
 by_settings b g c b' w n =
     let law = refused_exactly tt (settings.tests g) n in
@@ -70,7 +70,7 @@ outcome_refused : (a : Answer Numbered Entry) (n : Numbered) → (outcome a ≡ 
 outcome_refused (refused k) n = (λ e. let z : k ≡ n = cc in ap refused z, λ e. let z : k ≡ n = cc in ap refused z)
 outcome_refused (given e) n = (λ e. impossible (cc), λ e. impossible (cc))
 
-by_messages : (g : Settings) (M : List Sent) (b : List ℕ) → Working g M b → (m : List ℕ) (h : Hearing) (b' : List ℕ) → Hears b m h b'
+by_messages : (g : Settings) (M : List Sent) (b : List ℕ) → Working g M b → (m : List ℕ) (h : Result (Unit {0}) HearingRefusal) (b' : List ℕ) → Hears b m h b'
     → (n : Numbered) → (heard_as h ≡ refused n) ↔ First (message_tests g M m) n
 by_messages g M b w m h b' v n =
     let law = refused_exactly (would_keep g m) (message_tests g M m) n in
@@ -79,7 +79,7 @@ by_messages g M b w m h b' v n =
     let by = message_by_messages g (good g M b w) M m in
     (λ e. law.0 (sym by ∙ told.0 (sym is ∙ e)), λ f. is ∙ told.1 (by ∙ law.1 f))
 
-by_entries : (g : Settings) (M : List Sent) (b : List ℕ) → Working g M b → (e : Note) (h : Hearing) (b' : List ℕ) → Notes b e h b'
+by_entries : (g : Settings) (M : List Sent) (b : List ℕ) → Working g M b → (e : Note) (h : Result (Unit {0}) HearingRefusal) (b' : List ℕ) → Notes b e h b'
     → (n : Numbered) → (heard_as h ≡ refused n) ↔ First (tests_of_entry g M e) n
 by_entries g M b w e h b' v n =
     let law = entry_refused_exactly g (good g M b w) M e n in
@@ -87,7 +87,7 @@ by_entries g M b w e h b' v n =
     let told = outcome_refused (noting (store_of g M) e) n in
     (λ x. law.0 (told.0 (sym is ∙ x)), λ f. is ∙ told.1 (law.1 f))
 
-by_records : (dew : ℕ → ℤ) → DewRule dew → (words before after : List ℕ) (w : Written) → WritesFile words before w after
+by_records : (dew : ℕ → ℤ) → DewRule dew → (words before after : List ℕ) (w : Result ℕ WriteRefusal) → WritesFile words before w after
     → (n : Numbered) → (written_as w ≡ refused n) ↔ First (write_tests dew (offered words) (length (records_in words)) (length before)) n
 by_records dew ruled words before after w v n =
     let law = writes_in_order dew (offered words) (length (records_in words)) (length before) n in
@@ -95,12 +95,12 @@ by_records dew ruled words before after w v n =
     (λ e. law.0 (sized_refused (writing dew (offered words) (length (records_in words)) (length before)) n (sym h.answer ∙ e)), λ f. h.answer ∙ ap sized (law.1 f))
 
 -- settings that no test refuses are good
-opens : (b : List ℕ) (g : Settings) (c : Checked) (b' : List ℕ) → Opens b g c b' → ((n : ℕ) → Holds (settings.tests g) n → ⊥) → Working g [] b'
+opens : (b : List ℕ) (g : Settings) (c : Result (Unit {0}) SettingsRefusal) (b' : List ℕ) → Opens b g c b' → ((n : ℕ) → Holds (settings.tests g) n → ⊥) → Working g [] b'
 unfolding checked Working
 opens b g c b' w none =
     let is : checked_as c ≡ given tt = open_answer b g c b' w ∙ then_given tt (settings.tests g) none in
-    let same : c ≡ opening.Good = sym (case_back c) ∙ ap case_of is ∙ case_back opening.Good in
-    (b, subst (λ (x : Checked). Opens b g x b') same w)
+    let same : c ≡ Ok tt = sym (case_back c) ∙ ap case_of is ∙ case_back (Ok tt) in
+    (b, subst (λ (x : Result (Unit {0}) SettingsRefusal). Opens b g x b') same w)
 
 opening_leaves : (s : List ℕ) (g : Settings) (n : ℕ) → checked g ≡ refused n → opened_by s g ≡ s
 unfolding opened_by
@@ -109,37 +109,37 @@ opening_leaves s g n e = rw e
 -- whatever a message may be refused with is what some answer tells
 abbrev Told : List (Test Numbered) → Type 0
 Told [] = Unit
-Told (t ∷ ts) = ((h : Hearing) × (heard_as h ≡ refused t.refusal)) × Told ts
+Told (t ∷ ts) = ((h : Result (Unit {0}) HearingRefusal) × (heard_as h ≡ refused t.refusal)) × Told ts
 
-some_answer : (ts : List (Test Numbered)) → Told ts → (e : Entry) → (h : Hearing) × (heard_as h ≡ outcome (answer ts e))
+some_answer : (ts : List (Test Numbered)) → Told ts → (e : Entry) → (h : Result (Unit {0}) HearingRefusal) × (heard_as h ≡ outcome (answer ts e))
 unfolding answer
-some_answer [] all e = (Heard, refl)
+some_answer [] all e = (Ok tt, refl)
 some_answer (t ∷ ts) all e = go t.holds all.0 (some_answer ts all.1 e)
   where
-    go : (b : Bool) → (h : Hearing) × (heard_as h ≡ refused t.refusal) → (h : Hearing) × (heard_as h ≡ outcome (answer ts e))
-        → (h : Hearing) × (heard_as h ≡ outcome (cond b (refused t.refusal) (answer ts e)))
+    go : (b : Bool) → (h : Result (Unit {0}) HearingRefusal) × (heard_as h ≡ refused t.refusal) → (h : Result (Unit {0}) HearingRefusal) × (heard_as h ≡ outcome (answer ts e))
+        → (h : Result (Unit {0}) HearingRefusal) × (heard_as h ≡ outcome (cond b (refused t.refusal) (answer ts e)))
     go true now later = now
     go false now later = later
 
-goes_on : (b m : List ℕ) → (h : Hearing) × (b' : List ℕ) × Hears b m h b'
+goes_on : (b m : List ℕ) → (h : Result (Unit {0}) HearingRefusal) × (b' : List ℕ) × Hears b m h b'
 unfolding hearing
 goes_on b m =
     let e = entry_of_bytes b m in
     let a = some_answer (no_store b ∷ hear_tests b m) (
-      (NoStore, refl),
+      (Err NoStore, refl),
       (
-        (Refused NotSixteenBytes, refl),
+        (Err (Message NotSixteenBytes), refl),
         (
-          (Refused NoSuchChannel, refl),
+          (Err (Message NoSuchChannel), refl),
           (
-            (Refused ByteNotZero, refl),
+            (Err (Message ByteNotZero), refl),
             (
-              (Refused NoSuchState, refl),
+              (Err (Message NoSuchState), refl),
               (
-                (Refused MinuteTooLate, refl),
+                (Err (Message MinuteTooLate), refl),
                 (
-                  (Refused NotFinite, refl),
-                  ((Refused OutsideLimits, refl), ((Repeated, refl), ((Late (next_in b e.channel - (e.minute + 1)), refl), tt))),
+                  (Err (Message NotFinite), refl),
+                  ((Err (Message OutsideLimits), refl), ((Err Repeated, refl), ((Err (Late (next_in b e.channel - (e.minute + 1))), refl), tt))),
                 ),
               ),
             ),
@@ -153,20 +153,20 @@ goes_on b m =
       (([], ([], tt)), (lent_mut b, (lent m, tt)), a.0, (at_last (lent_mut b) (heard_by b m), (lent m, tt)), record { answer = a.1; block = refl }, (refl, refl, refl, refl)),
     )
 
-takes_entries : (b : List ℕ) (e : Note) → (h : Hearing) × (b' : List ℕ) × Notes b e h b'
+takes_entries : (b : List ℕ) (e : Note) → (h : Result (Unit {0}) HearingRefusal) × (b' : List ℕ) × Notes b e h b'
 unfolding noting
 takes_entries b e =
     let a = some_answer (no_store b ∷ note_tests (next_in b wind_channel) (course_at b e) (no_speed (certificate_held b) e) e) (
-      (NoStore, refl),
+      (Err NoStore, refl),
       (
-        (Refused MinuteTooLate, refl),
+        (Err (Message MinuteTooLate), refl),
         (
-          (Refused OutsideLimits, refl),
+          (Err (Message OutsideLimits), refl),
           (
-            (Repeated, refl),
+            (Err Repeated, refl),
             (
-              (Late (next_in b wind_channel - (e.minute + 1)), refl),
-              ((OutsideDial, refl), ((NoCourse (record { 0 = e.minute }), refl), ((OutsideAnemometer, refl), tt))),
+              (Err (Late (next_in b wind_channel - (e.minute + 1))), refl),
+              ((Err OutsideDial, refl), ((Err (NoCourse (record { 0 = e.minute })), refl), ((Err OutsideAnemometer, refl), tt))),
             ),
           ),
         ),

@@ -11,8 +11,6 @@ use borrow.Author.Tests.{ltb-false, le-leb, lt-ltb, not-false}
 use Rattle.number.specs.Refusal.{given}
 use Rattle.number.proofs.Sizes.{both}
 use Rattle.quantity.specs.Limits.{last_minute, three_hours, inside, pressure_limits, wheelhouse, recorded_pressure}
-use Rattle.quantity.specs.declared.MetresPerSecond.{MetresPerSecond}
-use Rattle.quantity.specs.declared.Degrees.{Degrees}
 use Rattle.settings.specs.Settings.{checked}
 use Rattle.settings.specs.declared.Settings.{Settings}
 use Rattle.cell.specs.Cells.{is_present}
@@ -21,7 +19,7 @@ use Rattle.pressure.proofs.PressureTheorems.{sea_level_recorded}
 use Rattle.vapour.specs.Vapour.{water, Tables, AreTables}
 use Rattle.vapour.proofs.SaturationLaws.{near_one}
 use Rattle.vapour.proofs.TablesExist.{the_tables}
-use Rattle.wind.specs.declared.TrueWind.TheVariants.{Blows}
+use Rattle.wind.specs.declared.Wind.{Wind}
 use Rattle.humidity.specs.declared.HumidityFigures.{HumidityFigures}
 use Rattle.humidity.proofs.VapourPressureLaws.{one_e}
 use Rattle.humidity.proofs.HumidityTheorems.{writable_of}
@@ -107,12 +105,12 @@ module _ (g : Settings) (good : checked g ≡ given tt) (M : List Sent) (m : ℕ
 
   -- ---- wind
 
-  pub wind_record_lem : (v : MetresPerSecond) (d : Degrees) → Answers (wind_tests S m) (WindRule S m) (given (Blows v d)) → (dew : ℕ → ℤ) → record_right dew 0 (wind_record m v d) ≡ true
-  wind_record_lem v d w dew =
-      let a = passed _ _ (WindRule S m) (Blows v d) w in
-      let b = passed _ _ (WindRule S m) (Blows v d) a.1 in
-      let c = passed _ _ (WindRule S m) (Blows v d) b.1 in
-      both (minute_right_lem m 3 a.0 (lit< tt) refl) (wind_taken dew _ _ _ _ v d (ruled (WindRule S m) (Blows v d) c.1))
+  pub wind_record_lem : (w : Wind) → Answers (wind_tests S m) (WindRule S m) (given w) → (dew : ℕ → ℤ) → record_right dew 0 (wind_record m w.speed w.direction) ≡ true
+  wind_record_lem w told dew =
+      let a = passed _ _ (WindRule S m) w told in
+      let b = passed _ _ (WindRule S m) w a.1 in
+      let c = passed _ _ (WindRule S m) w b.1 in
+      both (minute_right_lem m 3 a.0 (lit< tt) refl) (wind_taken dew _ _ _ _ w.speed w.direction (ruled (WindRule S m) w c.1))
 
   -- ---- humidity
 

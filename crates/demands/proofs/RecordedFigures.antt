@@ -20,7 +20,7 @@ use Rattle.window.proofs.AbsentLaws.{absents_le}
 use Rattle.pressure.specs.Pressure.{barometer_in, sea_level}
 use Rattle.pressure.proofs.PressureTheorems.{sea_level_recorded, change_recorded}
 use Rattle.wind.specs.Answer.{IsWind}
-use Rattle.wind.specs.declared.TrueWind.TheVariants.{Blows}
+use Rattle.std.specs.Prelude.{Some}
 use Rattle.wind.proofs.WindTheorems.{speed_inside, calm, calm_only, direction_inside}
 use Rattle.vapour.specs.Vapour.{lowest_vapour, recorded_vapour, relative_humidity, vapour_deficit}
 use Rattle.vapour.proofs.RangeLaws.{in_range}
@@ -54,7 +54,7 @@ module _ (g : Settings) (good : checked g ≡ given tt) (rule : ℕ → ℤ) whe
       (le-leb (absents is_present m minutes_between) minutes_between (absents_le is_present m minutes_between))
 
 -- The true wind.
-pub wind_taken : (rule : ℕ → ℤ) (course ship apparent bow : ℕ) (v : MetresPerSecond) (d : Degrees) → IsWind course ship apparent bow (Blows v d)
+pub wind_taken : (rule : ℕ → ℤ) (course ship apparent bow : ℕ) (v : MetresPerSecond) (d : Degrees) → IsWind course ship apparent bow (Some (record { speed = v; direction = d }))
     → body_right rule (Wind v.0 d.0) ≡ true
 unfolding speed_right direction_right
 wind_taken rule course ship apparent bow v d a = both (speed_inside course ship apparent bow v d a) (by v.0 refl)

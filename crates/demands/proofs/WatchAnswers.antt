@@ -36,15 +36,13 @@ use Rattle.humidity.specs.Parts.{figures_by}
 use Rattle.station.specs.Source.{heard}
 use Rattle.station.specs.Questions.{Answers, Tells}
 use Rattle.station.specs.Questions as asked
+use Rattle.std.specs.Prelude.{Result, Ok, Err}
+use Rattle.quantity.specs.declared.Hectopascals.{Hectopascals}
+use Rattle.wind.specs.declared.Wind.{Wind}
+use Rattle.humidity.specs.declared.HumidityFigures.{HumidityFigures}
+use Rattle.station.specs.declared.QuestionRefusal.{QuestionRefusal}
 use Rattle.station.specs.declared.QuestionRefusal.TheVariants.{MissingReading}
-use Rattle.station.specs.declared.PressureAnswer.{PressureAnswer}
-use Rattle.station.specs.declared.PressureAnswer.TheVariants as pressure
-use Rattle.station.specs.declared.TendencyAnswer.{TendencyAnswer}
-use Rattle.station.specs.declared.TendencyAnswer.TheVariants as tendency
-use Rattle.station.specs.declared.WindAnswer.{WindAnswer}
-use Rattle.station.specs.declared.WindAnswer.TheVariants as wind
-use Rattle.station.specs.declared.HumidityAnswer.{HumidityAnswer}
-use Rattle.station.specs.declared.HumidityAnswer.TheVariants as humidity
+use Rattle.station.specs.declared.PressureTendency.{PressureTendency}
 use Rattle.heard.proofs.RefusalsInOrder.{message_by_messages}
 use Rattle.octets.specs.Bytes.{bytes32}
 
@@ -122,11 +120,11 @@ kept_at_100 = ap is_present ((store_remembers ship good (bytes at_100 ∷ others
 
 -- ---- pressure
 
-abbrev pub pressed : ℤ → PressureAnswer
-pressed p = pressure.Given (record { 0 = record { v = p } })
+abbrev pub pressed : ℤ → Result Hectopascals QuestionRefusal
+pressed p = Ok (record { 0 = record { v = p } })
 
-abbrev pub missing : ℕ → ℕ → PressureAnswer
-missing channel minute = pressure.Refused (MissingReading channel (record { 0 = minute }))
+abbrev pub missing : ℕ → ℕ → Result Hectopascals QuestionRefusal
+missing channel minute = Err (MissingReading channel (record { 0 = minute }))
 
 pub pressures :
     Tells asked.pressure (heard ship quiet) 100 (pressed (pos 10000))
@@ -137,8 +135,8 @@ pressures = (λ tables tabled. (refl, refl), λ tables tabled. (refl, refl), λ 
 
 -- ---- tendency
 
-abbrev pub changed : ℤ → ℕ → TendencyAnswer
-changed c n = tendency.Given (record { 0 = record { v = c } }) n
+abbrev pub changed : ℤ → ℕ → Result PressureTendency QuestionRefusal
+changed c n = Ok (record { change = record { 0 = record { v = c } }; absent = n })
 
 pub tendencies :
     Tells asked.tendency (heard ship quiet) 280 (changed (pos 10) 179)
@@ -153,8 +151,8 @@ tendencies = (
 
 -- ---- wind
 
-abbrev pub blown : ℕ → ℕ → WindAnswer
-blown v d = wind.Given (record { 0 = v }) (record { 0 = d })
+abbrev pub blown : ℕ → ℕ → Result Wind QuestionRefusal
+blown v d = Ok (record { speed = record { 0 = v }; direction = record { 0 = d } })
 
 pub winds : Tells asked.wind (heard ship others) 100 (blown 48 60) × Tells asked.wind (heard ship others) 280 (blown 51 210)
 unfolding Answers answer history received to_whole nearest of_bits remembered sines fold size sine cosine sum N M meets count between turned compass from within_limits is_nearest is_wind
@@ -162,8 +160,8 @@ winds = (λ tables tabled. (refl, tested 260 125 25 40 48 60 refl), λ tables ta
 
 -- ---- humidity
 
-abbrev pub moist : ℕ → ℕ → ℕ → ℕ → ℤ → HumidityAnswer
-moist e saturation deficit relative dew = humidity.Given (figures_by e saturation deficit relative dew)
+abbrev pub moist : ℕ → ℕ → ℕ → ℕ → ℤ → Result HumidityFigures QuestionRefusal
+moist e saturation deficit relative dew = Ok (figures_by e saturation deficit relative dew)
 
 -- any tables' entries of a bulb
 over_water_lem : (tables : Tables) → AreTables tables → (t : ℤ) (n : ℕ) → inside bulb t ≡ true → T (near_test water t n) → tables.over_water t ≡ n

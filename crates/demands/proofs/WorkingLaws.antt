@@ -7,13 +7,13 @@ use denote.Ref.{Bor, MutBor}
 use Rattle.number.specs.Refusal.{given}
 use Rattle.settings.specs.Settings.{checked, checked_as}
 use Rattle.settings.specs.declared.Settings.{Settings}
-use Rattle.settings.specs.declared.Checked.{Checked}
-use Rattle.settings.specs.declared.Checked.TheVariants.{Good}
+use Rattle.std.specs.Prelude.{Result, Ok}
+use Rattle.settings.specs.declared.SettingsRefusal.{SettingsRefusal}
 use Rattle.anemometer.specs.declared.Note.{Note}
 use Rattle.store.specs.Block.{opened_by, hearing, heard_as, heard_by, outcome}
 use Rattle.store.specs.Noting.{noting, noted_by}
 use Rattle.store.specs.History.{Sent, bytes, note, store_of}
-use Rattle.store.specs.declared.Hearing.{Hearing}
+use Rattle.store.specs.declared.HearingRefusal.{HearingRefusal}
 use Rattle.store.proofs.OpenLaws.{opens}
 use Rattle.station.specs.Source.{heard}
 use Rattle.station.specs.Questions.{Asked, pressure, tendency, wind, humidity, Reply, Tells, TellsOf}
@@ -32,14 +32,14 @@ lent_mut s = record { ref_ptr = (0, 0); ghost_name = 0; now = s }
 
 -- ---- single calls
 
-module _ (b : List ℕ) (g : Settings) (c : Checked) (b' : List ℕ) (w : Opens b g c b') where
+module _ (b : List ℕ) (g : Settings) (c : Result (Unit {0}) SettingsRefusal) (b' : List ℕ) (w : Opens b g c b') where
   pub open_answer : checked_as c ≡ checked g
   open_answer = let which = w.5 in ap checked_as (sym which.2) ∙ w.4.0 ∙ ap checked which.1
 
   pub open_block : b' ≡ opened_by b g
   open_block = let which = w.5 in sym which.3 ∙ w.4.1 ∙ ap (λ (s : List ℕ). opened_by s w.1.1.0) which.0 ∙ ap (opened_by b) which.1
 
-module _ (b m : List ℕ) (h : Hearing) (b' : List ℕ) (w : Hears b m h b') where
+module _ (b m : List ℕ) (h : Result (Unit {0}) HearingRefusal) (b' : List ℕ) (w : Hears b m h b') where
   pub hear_answer : heard_as h ≡ outcome (hearing b m)
   hear_answer =
       let which = w.5 in
@@ -50,7 +50,7 @@ module _ (b m : List ℕ) (h : Hearing) (b' : List ℕ) (w : Hears b m h b') whe
       let which = w.5 in
       sym which.3 ∙ w.4.block ∙ ap (λ (s : List ℕ). heard_by s w.1.1.0.now) which.0 ∙ ap (heard_by b) which.1
 
-module _ (b : List ℕ) (n : Note) (h : Hearing) (b' : List ℕ) (w : Notes b n h b') where
+module _ (b : List ℕ) (n : Note) (h : Result (Unit {0}) HearingRefusal) (b' : List ℕ) (w : Notes b n h b') where
   pub note_answer : heard_as h ≡ outcome (noting b n)
   note_answer =
       let which = w.5 in
@@ -91,13 +91,13 @@ asks_leaves humidity b m x b' w = let which = w.5 in sym which.3 ∙ w.4.1 ∙ w
 
 pub good : (g : Settings) (M : List Sent) (b : List ℕ) → Working g M b → checked g ≡ given tt
 unfolding Working
-good g [] b w = sym (open_answer w.0 g Good b w.1)
+good g [] b w = sym (open_answer w.0 g (Ok tt) b w.1)
 good g (bytes m ∷ M) b w = good g M w.0 w.1
 good g (note n ∷ M) b w = good g M w.0 w.1
 
 pub block : (g : Settings) (M : List Sent) (b : List ℕ) → Working g M b → b ≡ store_of g M
 unfolding Working
-block g [] b w = open_block w.0 g Good b w.1 ∙ sym (opens w.0 g (good g [] b w))
+block g [] b w = open_block w.0 g (Ok tt) b w.1 ∙ sym (opens w.0 g (good g [] b w))
 block g (bytes m ∷ M) b w = hear_block w.0 m w.2.0 b w.2.1 ∙ ap (λ (s : List ℕ). heard_by s m) (block g M w.0 w.1)
 block g (note n ∷ M) b w = note_block w.0 n w.2.0 b w.2.1 ∙ ap (λ (s : List ℕ). noted_by s n) (block g M w.0 w.1)
 

@@ -1,16 +1,16 @@
 -- The five empty programs that document 01 wants shut out ("What the contracts settle"), and what it is that a program meets the
 -- station's contracts. proofs/NoEmptyProgram.antt proves that none of the five does.
-use Rattle.std.specs.Prelude.{◌≡◌, List, [], ◌∷◌, ℕ, ℤ}
+use Rattle.std.specs.Prelude.{◌≡◌, List, [], ◌∷◌, ℕ, ℤ, Result}
 use denote.Ref.{at_last}
 use Rattle.number.specs.Refusal.{Numbered, Answer, refused, given}
 use Rattle.wire.specs.Bytes.{channel}
 use Rattle.settings.specs.Settings.{checked_as}
 use Rattle.settings.specs.declared.Settings.{Settings}
-use Rattle.settings.specs.declared.Checked.{Checked}
+use Rattle.settings.specs.declared.SettingsRefusal.{SettingsRefusal}
 use Rattle.anemometer.specs.declared.Note.{Note}
 use Rattle.store.specs.Block.{heard_as}
 use Rattle.store.specs.History.{Sent, bytes, note}
-use Rattle.store.specs.declared.Hearing.{Hearing}
+use Rattle.store.specs.declared.HearingRefusal.{HearingRefusal}
 use Rattle.station.specs.Told.{Change}
 use Rattle.station.specs.Questions.{Asked, pressure, tendency, wind, humidity, question, Reply}
 use Rattle.station.proofs.«open».Reads as to_open
@@ -26,9 +26,9 @@ use Rattle.station.proofs.humidity.Reads as for_humidity
 -- A program, by what its seven functions do: of a block and settings, a message or an entry, an answer and the block that is left; of a
 -- block and a minute, an answer.
 pub record Program : Type 0 where
-  pub opens : List ℕ → Settings → Checked × List ℕ
-  pub hears : List ℕ → List ℕ → Hearing × List ℕ
-  pub notes : List ℕ → Note → Hearing × List ℕ
+  pub opens : List ℕ → Settings → Result (Unit {0}) SettingsRefusal × List ℕ
+  pub hears : List ℕ → List ℕ → Result (Unit {0}) HearingRefusal × List ℕ
+  pub notes : List ℕ → Note → Result (Unit {0}) HearingRefusal × List ℕ
   pub asks : (q : Asked) → List ℕ → ℕ → Reply q
 
 -- A contract as the check reads it (`Reads.Post`) holds of what is done with any arguments: the answer, and the parameters at exit.

@@ -2,7 +2,7 @@
 -- comes to the same as what was to be heard at the start. Assumes nothing.
 use mathlib.Core.Path.{◌≡◌, refl, sym, ap, ◌∙◌}
 use mathlib.Core.Bool.{Bool, true, false, cond}
-use mathlib.Core.List.{List, [], ◌∷◌, ◌++◌}
+use mathlib.Core.List.{List, [], ◌∷◌, ◌++◌, append-nil}
 use Prim.Native.Nat.{ℕ, suc, ◌+◌, ◌-◌, ◌/◌, ◌^◌, ◌≤◌, ◌<◌, min}
 use native.Mathlib.Omega.{arith}
 use native.Mathlib.Decide.{dec_lt}
@@ -17,20 +17,19 @@ use Rattle.message.specs.Receive.{Entry}
 use Rattle.settings.specs.declared.Settings.{Settings}
 use Rattle.store.specs.Block.{hearing, heard_by, heard_as, outcome, Hears}
 use Rattle.store.specs.History.{Sent, bytes, store_of}
-use Rattle.store.specs.declared.Hearing.{Hearing}
-use Rattle.store.specs.declared.Hearing.TheVariants.{Heard, Refused, Repeated, Late, OutsideDial, NoCourse, OutsideAnemometer, NoStore}
+use Rattle.store.specs.declared.HearingRefusal.{HearingRefusal}
+use Rattle.store.specs.declared.HearingRefusal.TheVariants.{Message, Repeated, Late, OutsideDial, NoCourse, OutsideAnemometer, NoStore}
+use Rattle.std.specs.Prelude.{Result, Ok, Err}
 use Rattle.desk.specs.Counting.{cut, messages, heard_all, one_more, counted_all}
 
 -- ---- cutting
 
-messages_none : messages [] ≡ []
+pub messages_none : (s : List ℕ) → length s ≡ 0 → messages s ≡ []
 unfolding messages cut
-messages_none = refl
+messages_none [] h = refl
+messages_none (x ∷ s) h = absurd (omega (arith, h))
 
-pub messages_done : (s : List ℕ) (at : ℕ) → length s ≤ at → messages (drop at s) ≡ []
-messages_done s at h = ap messages (drop_of_length-le s h) ∙ messages_none
-
-pub messages_on : (s : List ℕ) → 0 < length s → messages s ≡ take 16 s ∷ messages (drop 16 s)
+messages_on : (s : List ℕ) → 0 < length s → messages s ≡ take 16 s ∷ messages (drop 16 s)
 unfolding messages cut
 messages_on s h =
     let n : (length s + 15) / 16 ≡ suc ((length (drop 16 s) + 15) / 16) = omega (arith, length-drop 16 s) in
@@ -43,41 +42,24 @@ message_then m rest h =
     ∙ ap (λ (x : List ℕ). x ∷ messages (drop 16 (m ++ rest))) (take_at m rest 16 h)
     ∙ ap (λ (x : List ℕ). m ∷ messages x) (drop_at m rest 16 h)
 
--- a part from `at` on that ends after 16 bytes or with the text is the next message, and what lies behind it is the rest
-module _ (s : List ℕ) (at end : ℕ) (here : at < length s) (ends : end ≡ min (at + 16) (length s)) where
-  next_message : take (end - at) (drop at s) ≡ take 16 (drop at s)
-  next_message = go (dec_lt (length s) (at + 16))
-    where
-      go : Dec (length s < at + 16) → take (end - at) (drop at s) ≡ take 16 (drop at s)
-      go (yes y) =
-          take_all (end - at) (drop at s) (omega (arith, length-drop at s))
-          ∙ sym (take_all 16 (drop at s) (omega (arith, length-drop at s)))
-      go (no n) = let k : end - at ≡ 16 = omega arith in ap (λ (j : ℕ). take j (drop at s)) k
-
-  next_rest : drop 16 (drop at s) ≡ drop end s
-  next_rest = go (dec_lt (length s) (at + 16))
-    where
-      go : Dec (length s < at + 16) → drop 16 (drop at s) ≡ drop end s
-      go (yes y) =
-          let past : length s ≤ at + 16 = omega arith in
-          let all : length s ≤ end = omega arith in
-          drop-drop 16 at s ∙ drop_of_length-le s past ∙ sym (drop_of_length-le s all)
-      go (no n) = let k : at + 16 ≡ end = omega arith in drop-drop 16 at s ∙ ap (λ (j : ℕ). drop j s) k
-
-  pub cut_on : messages (drop at s) ≡ take (end - at) (drop at s) ∷ messages (drop end s)
-  cut_on =
-      messages_on (drop at s) (omega (arith, length-drop at s))
-      ∙ ap (λ (m : List ℕ). m ∷ messages (drop 16 (drop at s))) (sym next_message)
-      ∙ ap (λ (t : List ℕ). take (end - at) (drop at s) ∷ messages t) next_rest
+-- the next chunk, of 16 bytes or all that are left, is the next message
+pub chunk_is : (s m rest : List ℕ) → s ≡ m ++ rest → length m ≡ min 16 (length s) → 0 < length s → messages s ≡ m ∷ messages rest
+chunk_is s m [] e l h =
+    let whole : s ≡ m = e ∙ append-nil m in
+    let few : length s ≤ 16 = omega (arith, ap length whole) in
+    messages_on s h
+    ∙ ap (λ (x : List ℕ). x ∷ messages (drop 16 s)) (take_all 16 s few ∙ whole)
+    ∙ ap (λ (x : List ℕ). m ∷ messages x) (drop_of_length-le s few)
+chunk_is s m (x ∷ rest) e l h = ap messages e ∙ message_then m (x ∷ rest) (omega (arith, ap length e, length-append m (x ∷ rest)))
 
 -- ---- numbers
 
 -- each has a place among the counts
-pub number_small : (h : Hearing) → numbered_in (heard_as h) < 256
-number_small Heard = lit< tt
-number_small (Refused r) = go r
+pub number_small : (h : Result (Unit {0}) HearingRefusal) → numbered_in (heard_as h) < 256
+number_small (Ok u) = lit< tt
+number_small (Err (Message r)) = go r
   where
-    go : (r : MessageRefusal) → numbered_in (heard_as (Refused r)) < 256
+    go : (r : MessageRefusal) → numbered_in (heard_as (Err (Message r))) < 256
     go NotSixteenBytes = lit< tt
     go NoSuchChannel = lit< tt
     go ByteNotZero = lit< tt
@@ -85,12 +67,12 @@ number_small (Refused r) = go r
     go MinuteTooLate = lit< tt
     go NotFinite = lit< tt
     go OutsideLimits = lit< tt
-number_small Repeated = lit< tt
-number_small (Late minutes) = lit< tt
-number_small OutsideDial = lit< tt
-number_small (NoCourse m) = lit< tt
-number_small OutsideAnemometer = lit< tt
-number_small NoStore = lit< tt
+number_small (Err Repeated) = lit< tt
+number_small (Err (Late minutes)) = lit< tt
+number_small (Err OutsideDial) = lit< tt
+number_small (Err (NoCourse m)) = lit< tt
+number_small (Err OutsideAnemometer) = lit< tt
+number_small (Err NoStore) = lit< tt
 
 same_number : (a : Answer Numbered Entry) → numbered_in (outcome a) ≡ numbered_in a
 same_number (refused n) = refl
@@ -99,7 +81,7 @@ same_number (given e) = refl
 -- ---- hearing one more
 
 -- a message was heard, and its number counted: what is left comes to the same
-module _ (s s' m counts : List ℕ) (M : List (List ℕ)) (h : Hearing) (n k : ℕ)
+module _ (s s' m counts : List ℕ) (M : List (List ℕ)) (h : Result (Unit {0}) HearingRefusal) (n k : ℕ)
     (hears : Hears s s' m h) (number : n ≡ numbered_in (heard_as h)) (more : k ≡ min (get_or counts n 0 + 1) (2 ^ 64 - 1)) where
   pub heard_on : heard_all s' M ≡ heard_all s (m ∷ M)
   unfolding heard_all

@@ -1,4 +1,3 @@
 pub mod CountLaws
-pub mod EntryLaws
 pub mod SingleAnswers
 pub mod FitTheorems

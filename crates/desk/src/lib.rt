@@ -6,14 +6,14 @@ ghost use Rattle.desk.specs.Entries.{pressure_entry, tendency_entry, wind_entry,
 ghost use Rattle.desk.specs.Counting.{messages, HearsAll};
 
 use block::Store;
+use humidity::HumidityFigures;
 use number::Number;
-use station::{HumidityAnswer, PressureAnswer, TendencyAnswer, WindAnswer};
+use quantity::Hectopascals;
+use station::{PressureTendency, QuestionRefusal};
 use watchfile::{Body, Record};
+use wind::Wind;
 
 // ---- messages, heard and counted
-
-// The most absent minutes that a record's byte counts.
-const MOST_ABSENT: u64 = 255;
 
 // A place for every number of one byte: 0 for what was heard, then refusals, up to that of a block that is no store.
 pub const NUMBERS: usize = 256;
@@ -31,10 +31,7 @@ pub struct Counts {
 fn one_more(count: u64) -> u64
     ensures { result ≡ min (count + 1) (2 ^ 64 - 1) }
 {
-    if count < u64::MAX {
-        return count + 1;
-    }
-    count
+    count.saturating_add(1)
 }
 
 // Cuts the bytes into messages of 16 and hears each, in order. The counts with these added. What is left of a message at the end is
@@ -43,140 +40,80 @@ pub fn hear_all(store: &mut Store, bytes: &[u8], before: Counts) -> Counts
     ensures { HearsAll store.old store.new (messages bytes.now) before.of result.of }
 {
     let mut counts = before.of;
-    let mut at: usize = 0;
-    while at < bytes.len() {
-        let end = number::smaller(at + MESSAGE, bytes.len());
-        let n = store::number(store::hear(store, &bytes[at..end])) as usize;
+    for message in bytes.chunks(MESSAGE) {
+        let n = store::number(store::hear(store, message)) as usize;
         counts[n] = one_more(counts[n]);
-        at = end;
     }
     Counts { of: counts }
 }
 
 // ---- answers as records
 
-// The entry that an answer makes in a watch file.
-#[derive(Clone, Copy)]
-pub enum Entry {
-    Record(Record),
-    // The answer was a refusal, or a figure does not fit its field.
-    NoRecord,
-}
-
-// What fields of two bytes hold.
-const WORD_LOW: Number = Number { v: 0 };
-
-const WORD_HIGH: Number = Number { v: 65535 };
-
+// What a field of two bytes with a sign holds.
 const SIGNED_LOW: Number = Number { v: -32768 };
 
 const SIGNED_HIGH: Number = Number { v: 32767 };
 
 // A pressure's record: the field has no sign, so none is made of a number below 0.
-pub fn pressure_record(minute: u32, r: PressureAnswer) -> Entry
+pub fn pressure_record(minute: u32, r: Result<Hectopascals, QuestionRefusal>) -> Option<Record>
     ensures { result ≡ pressure_entry minute r }
 {
-    match r {
-        PressureAnswer::Given(p) => {
-            let n = p.0;
-            if !n.within(WORD_LOW, WORD_HIGH) {
-                return Entry::NoRecord;
-            }
-            Entry::Record(Record {
-                minute,
-                body: Body::Pressure(n.size() as u16),
-            })
-        }
-        PressureAnswer::Refused(_) => Entry::NoRecord,
-    }
+    let n = r.ok()?.0;
+    Some(Record {
+        minute,
+        body: Body::Pressure(u16::try_from(n.v).ok()?),
+    })
 }
 
 // A tendency's record: the change, and how many minutes are absent.
-pub fn tendency_record(minute: u32, r: TendencyAnswer) -> Entry
+pub fn tendency_record(minute: u32, r: Result<PressureTendency, QuestionRefusal>) -> Option<Record>
     ensures { result ≡ tendency_entry minute r }
 {
-    match r {
-        TendencyAnswer::Given(c, absent) => {
-            let n = c.0;
-            if !n.within(SIGNED_LOW, SIGNED_HIGH) {
-                return Entry::NoRecord;
-            }
-            if absent > MOST_ABSENT {
-                return Entry::NoRecord;
-            }
-            Entry::Record(Record {
-                minute,
-                body: Body::Tendency {
-                    change: n.keep(),
-                    absent: absent as u8,
-                },
-            })
-        }
-        TendencyAnswer::Refused(_) => Entry::NoRecord,
+    let t = r.ok()?;
+    let n = t.change.0;
+    if !n.within(SIGNED_LOW, SIGNED_HIGH) {
+        return None;
     }
+    Some(Record {
+        minute,
+        body: Body::Tendency {
+            change: n.keep(),
+            absent: u8::try_from(t.absent).ok()?,
+        },
+    })
 }
 
 // A wind's record: speed and direction.
-pub fn wind_record(minute: u32, r: WindAnswer) -> Entry
+pub fn wind_record(minute: u32, r: Result<Wind, QuestionRefusal>) -> Option<Record>
     ensures { result ≡ wind_entry minute r }
 {
-    match r {
-        WindAnswer::Given(v, d) => {
-            if v.0 > 65535 {
-                return Entry::NoRecord;
-            }
-            if d.0 > 65535 {
-                return Entry::NoRecord;
-            }
-            Entry::Record(Record {
-                minute,
-                body: Body::Wind {
-                    speed: v.0 as u16,
-                    direction: d.0 as u16,
-                },
-            })
-        }
-        WindAnswer::Refused(_) => Entry::NoRecord,
-    }
+    let w = r.ok()?;
+    Some(Record {
+        minute,
+        body: Body::Wind {
+            speed: u16::try_from(w.speed.0).ok()?,
+            direction: u16::try_from(w.direction.0).ok()?,
+        },
+    })
 }
 
 // A humidity's record: its five figures.
-pub fn humidity_record(minute: u32, r: HumidityAnswer) -> Entry
+pub fn humidity_record(minute: u32, r: Result<HumidityFigures, QuestionRefusal>) -> Option<Record>
     ensures { result ≡ humidity_entry minute r }
 {
-    match r {
-        HumidityAnswer::Given(h) => {
-            let e = h.e;
-            let saturation = h.saturation;
-            let deficit = h.deficit;
-            let dew = h.dew;
-            let point = dew.0;
-            if e.0 > 65535 {
-                return Entry::NoRecord;
-            }
-            if saturation.0 > 65535 {
-                return Entry::NoRecord;
-            }
-            if deficit.0 > 65535 {
-                return Entry::NoRecord;
-            }
-            if h.relative > 255 {
-                return Entry::NoRecord;
-            }
-            if !point.number().within(SIGNED_LOW, SIGNED_HIGH) {
-                return Entry::NoRecord;
-            }
-            Entry::Record(Record {
-                minute,
-                body: Body::Humidity {
-                    e: e.0 as u16,
-                    saturation: saturation.0 as u16,
-                    deficit: deficit.0 as u16,
-                    relative: h.relative as u8,
-                    dew: point,
-                },
-            })
-        }
-        HumidityAnswer::Refused(_) => Entry::NoRecord,
+    let h = r.ok()?;
+    let dew = h.dew.0;
+    if !dew.number().within(SIGNED_LOW, SIGNED_HIGH) {
+        return None;
     }
+    Some(Record {
+        minute,
+        body: Body::Humidity {
+            e: u16::try_from(h.e.0).ok()?,
+            saturation: u16::try_from(h.saturation.0).ok()?,
+            deficit: u16::try_from(h.deficit.0).ok()?,
+            relative: u8::try_from(h.relative).ok()?,
+            dew,
+        },
+    })
 }

@@ -14,13 +14,9 @@ use Rattle.station.specs.Questions.{Asked, Reply, question, TellsOf}
 use Rattle.station.specs.Questions as asked
 use Rattle.station.specs.declared.QuestionRefusal.{QuestionRefusal}
 use Rattle.station.specs.declared.QuestionRefusal.TheVariants.{MinuteTooLate, OutsideLimits, MissingReading, OutsideCertificate, WetAboveDry, NoThreeHours, TooDry, TooWarmForIce, UnknownOutsideRange, AboveSaturation, NoStore}
-use Rattle.station.specs.declared.PressureAnswer.TheVariants as pressure
-use Rattle.station.specs.declared.TendencyAnswer.TheVariants as tendency
-use Rattle.station.specs.declared.WindAnswer.TheVariants as wind
-use Rattle.station.specs.declared.HumidityAnswer.TheVariants as humidity
 use Rattle.watchfile.specs.Rules.{kind_right}
-use Rattle.desk.specs.declared.Entry.{Entry}
-use Rattle.desk.specs.declared.Entry.TheVariants as entry
+use Rattle.watchfile.specs.declared.Record.{Record}
+use Rattle.std.specs.Prelude.{Option, Some, None, Ok, Err}
 use Rattle.told.specs.Told.{Told, told_in}
 use Rattle.told.specs.declared.Refusal.{Refusal}
 use Rattle.entered.specs.Entered.{asked_by, entry_of, unfit, refusal_for, refusal_beside, words_for, RecordedAs, RecordedBy}
@@ -47,29 +43,29 @@ refusal_told asked.tendency t = t.refusal
 refusal_told asked.wind t = t.refusal
 refusal_told asked.humidity t = t.refusal
 
-beside : (q : Asked) (e : Entry) (a : Reply q) → refusal_beside e (refusal_told q (told_in q ((question q).told a))) ≡ refusal_for e ((question q).told a)
-beside asked.pressure (entry.Record r) a = refl
-beside asked.tendency (entry.Record r) a = refl
-beside asked.wind (entry.Record r) a = refl
-beside asked.humidity (entry.Record r) a = refl
-beside asked.pressure entry.NoRecord (pressure.Given p) = refl
-beside asked.pressure entry.NoRecord (pressure.Refused r) = rw (some r)
-beside asked.tendency entry.NoRecord (tendency.Given c n) = refl
-beside asked.tendency entry.NoRecord (tendency.Refused r) = rw (some r)
-beside asked.wind entry.NoRecord (wind.Given v d) = refl
-beside asked.wind entry.NoRecord (wind.Refused r) = rw (some r)
-beside asked.humidity entry.NoRecord (humidity.Given h) = refl
-beside asked.humidity entry.NoRecord (humidity.Refused r) = rw (some r)
+beside : (q : Asked) (e : Option Record) (a : Reply q) → refusal_beside e (refusal_told q (told_in q ((question q).told a))) ≡ refusal_for e ((question q).told a)
+beside asked.pressure (Some r) a = refl
+beside asked.tendency (Some r) a = refl
+beside asked.wind (Some r) a = refl
+beside asked.humidity (Some r) a = refl
+beside asked.pressure None (Ok x) = refl
+beside asked.pressure None (Err r) = rw (some r)
+beside asked.tendency None (Ok x) = refl
+beside asked.tendency None (Err r) = rw (some r)
+beside asked.wind None (Ok x) = refl
+beside asked.wind None (Err r) = rw (some r)
+beside asked.humidity None (Ok x) = refl
+beside asked.humidity None (Err r) = rw (some r)
 
-pub recorded : (q : Asked) (s : List ℕ) (m : ℕ) (before after : List ℕ) (r : Refusal) (a : Reply q) (e : Entry) (t : Told q)
+pub recorded : (q : Asked) (s : List ℕ) (m : ℕ) (before after : List ℕ) (r : Refusal) (a : Reply q) (e : Option Record) (t : Told q)
     → TellsOf q s m a → e ≡ entry_of q m a → t ≡ told_in q ((question q).told a) → r ≡ refusal_beside e (refusal_told q t) → after ≡ words_for e before
     → RecordedAs q s m before after r
 recorded q s m before after r a e t right is told answered left =
     record {
       answer = a;
       right = right;
-      told = answered ∙ ap (λ (x : Told q). refusal_beside e (refusal_told q x)) told ∙ beside q e a ∙ ap (λ (x : Entry). refusal_for x ((question q).told a)) is;
-      words = left ∙ ap (λ (x : Entry). words_for x before) is;
+      told = answered ∙ ap (λ (x : Told q). refusal_beside e (refusal_told q x)) told ∙ beside q e a ∙ ap (λ (x : Option Record). refusal_for x ((question q).told a)) is;
+      words = left ∙ ap (λ (x : Option Record). words_for x before) is;
     }
 
 -- ---- a kind is one of four

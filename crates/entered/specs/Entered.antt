@@ -1,14 +1,13 @@
 -- The record that an answer of the station makes, laid into lent words, or why there is none.
-use Rattle.std.specs.Prelude.{◌≡◌, true, false, cond, List, ℕ, eqb}
+use Rattle.std.specs.Prelude.{◌≡◌, true, false, cond, List, ℕ, eqb, Option, Some, None}
 use Rattle.number.specs.Refusal.{Numbered, Answer, refused, given}
 use Rattle.station.specs.Questions.{Asked, Reply, question, TellsOf}
 use Rattle.station.specs.Questions as asked
 use Rattle.watchfile.specs.Rules.{kind_right}
 use Rattle.watchfile.specs.Format.{figures_of}
+use Rattle.watchfile.specs.declared.Record.{Record}
 use Rattle.handed.specs.Words.{words_of}
 use Rattle.desk.specs.Entries.{pressure_entry, tendency_entry, wind_entry, humidity_entry}
-use Rattle.desk.specs.declared.Entry.{Entry}
-use Rattle.desk.specs.declared.Entry.TheVariants as entry
 use Rattle.told.specs.Told.{refusal_in, none}
 use Rattle.told.specs.declared.Refusal.{Refusal}
 
@@ -17,7 +16,7 @@ abbrev pub asked_by : ℕ → Asked
 asked_by kind = cond (eqb kind 1) asked.pressure (cond (eqb kind 2) asked.tendency (cond (eqb kind 3) asked.wind asked.humidity))
 
 -- What the desk makes of its answer at a minute.
-abbrev pub entry_of : (q : Asked) → ℕ → Reply q → Entry
+abbrev pub entry_of : (q : Asked) → ℕ → Reply q → Option Record
 entry_of asked.pressure = pressure_entry
 entry_of asked.tendency = tendency_entry
 entry_of asked.wind = wind_entry
@@ -32,14 +31,14 @@ abbrev pub why_not : {A : Type 0} → Answer Numbered A → Refusal
 why_not (refused r) = refusal_in r
 why_not (given a) = unfit
 
-abbrev pub refusal_for : {A : Type 0} → Entry → Answer Numbered A → Refusal
-refusal_for (entry.Record r) a = none
-refusal_for entry.NoRecord a = why_not a
+abbrev pub refusal_for : {A : Type 0} → Option Record → Answer Numbered A → Refusal
+refusal_for (Some r) a = none
+refusal_for None a = why_not a
 
 -- The lent words then: those of the record, or as they were.
-abbrev pub words_for : Entry → List ℕ → List ℕ
-words_for (entry.Record r) before = words_of (figures_of r)
-words_for entry.NoRecord before = before
+abbrev pub words_for : Option Record → List ℕ → List ℕ
+words_for (Some r) before = words_of (figures_of r)
+words_for None before = before
 
 -- The answer to a question q, asked of the block s at minute m, was to be recorded in the words `before`, which are `after` then.
 pub record RecordedAs (q : Asked) (s : List ℕ) (m : ℕ) (before after : List ℕ) (r : Refusal) : Type 0 where
@@ -54,6 +53,6 @@ pub record RecordedBy (kind : ℕ) (s : List ℕ) (m : ℕ) (before after : List
   pub no_kind : kind_right kind ≡ false → (r ≡ unfit) × (after ≡ before)
 
 -- By the refusal as it is told: its number is 0 where there is none.
-abbrev pub refusal_beside : Entry → Refusal → Refusal
-refusal_beside (entry.Record r) told = none
-refusal_beside entry.NoRecord told = cond (eqb told.number 0) unfit told
+abbrev pub refusal_beside : Option Record → Refusal → Refusal
+refusal_beside (Some r) told = none
+refusal_beside None told = cond (eqb told.number 0) unfit told

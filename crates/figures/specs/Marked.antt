@@ -1,6 +1,6 @@
 -- Every figure that document 01 marks with *, in one table ("Figures on both sides"), as document 02 has changed them, and the one
 -- that W3 asks for.
-use Rattle.std.specs.Prelude.{◌≡◌, List, [], ◌∷◌, ℕ, ℤ, pos, neg_ℤ, length}
+use Rattle.std.specs.Prelude.{◌≡◌, List, [], ◌∷◌, ℕ, ℤ, pos, neg_ℤ, length, Some, Ok}
 use Rattle.number.specs.Refusal.{given}
 use Rattle.quantity.specs.declared.BarometerUnit.{BarometerUnit}
 use Rattle.quantity.specs.declared.BarometerUnit.TheVariants.{Millimetres}
@@ -11,10 +11,8 @@ use Rattle.settings.specs.Settings.{point_at}
 use Rattle.settings.specs.declared.Point.{Point}
 use Rattle.pressure.specs.Pressure.{sea_level_answer}
 use Rattle.wind.specs.Answer.{IsWind}
-use Rattle.wind.specs.declared.TrueWind.TheVariants.{Blows}
 use Rattle.humidity.specs.Humidity.{IsMoisture}
 use Rattle.humidity.specs.Parts.{figures_by}
-use Rattle.humidity.specs.declared.Moisture.TheVariants.{Given}
 
 -- A row: what is given, and the figures that it comes to.
 pub data Marked : Type 0 where
@@ -32,8 +30,8 @@ Says (pressure unit h difference coefficient points reading t p) =
     (record { unit = unit; height = h; difference = difference; coefficient = coefficient; points = length points; point = point_at points })
     reading t
     ≡ given p
-Says (wind course ship apparent r v d) = IsWind course ship apparent r (Blows (record { 0 = v }) (record { 0 = d }))
-Says (humidity s dry wet p a e saturation deficit relative dew) = IsMoisture s dry wet p a (Given (figures_by e saturation deficit relative dew))
+Says (wind course ship apparent r v d) = IsWind course ship apparent r (Some (record { speed = record { 0 = v }; direction = record { 0 = d } }))
+Says (humidity s dry wet p a e saturation deficit relative dew) = IsMoisture s dry wet p a (Ok (figures_by e saturation deficit relative dew))
 
 abbrev pub AllSay : List Marked → Type 0
 AllSay [] = Unit

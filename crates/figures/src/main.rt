@@ -3,32 +3,19 @@
 #![tactic(auto)]
 
 use block::Store;
-use humidity::Moisture;
+use humidity::HumidityRefusal;
 use number::{Kept, Number};
-use pressure::{BarometerReading, WorkedPressure};
+use pressure::{BarometerReading, PressureRefusal};
 use quantity::{
     BarometerUnit, BulbState, BulbTemperature, Degrees, Hectopascals, Knots, MetresPerSecond,
     Millimetres, WheelhouseTemperature,
 };
 use settings::{
-    Anemometer, Correction, Height, Point, PsychrometerCoefficient, Rate, RatePoint,
-    SeaLevelDifference, Settings, TemperatureCoefficient,
+    Anemometer, Correction, Height, Point, PsychrometerCoefficient, RatePoint, SeaLevelDifference,
+    Settings, TemperatureCoefficient,
 };
-use station::{QuestionRefusal, Refused, TendencyAnswer};
+use station::{QuestionRefusal, Refused};
 use std::io;
-use wind::TrueWind;
-
-fn say_number(rt: &impl Print, n: Number) -> io::Result<()> {
-    print!(rt; " ")?;
-    if n.is_minus() {
-        print!(rt; "-")?;
-    }
-    print!(rt; "{}", n.size())
-}
-
-fn say_natural(rt: &impl Print, n: u32) -> io::Result<()> {
-    say_number(rt, Number::whole(n))
-}
 
 fn point(reading: i32, correction: i32) -> Point {
     Point {
@@ -38,20 +25,16 @@ fn point(reading: i32, correction: i32) -> Point {
 }
 
 fn no_anemometer() -> Anemometer {
-    let none = RatePoint {
-        rate: Rate(Kept { v: 0 }),
-        speed: Kept { v: 0 },
-    };
     Anemometer {
         count: 0,
-        points: [none; 20],
+        points: [RatePoint::NONE; settings::RATES],
     }
 }
 
 // Certificate 730.0:-0.4, 750.0:-0.8 mm Hg, coefficient 24, H 10.1.
 fn settings(difference: i32) -> Settings {
     let first = point(7300, -4);
-    let mut points = [first; 16];
+    let mut points = [first; settings::POINTS];
     points[1] = point(7500, -8);
     Settings {
         unit: BarometerUnit::Millimetres,
@@ -68,19 +51,15 @@ fn settings(difference: i32) -> Settings {
 // Reading 741.9 mm Hg at 12.4 °C.
 fn pressure_at_sea_level(rt: &impl Print, difference: i32) -> io::Result<()> {
     let mut store = [0u64; block::WORDS];
-    store::open(&mut store, settings(difference));
+    let _ = store::open(&mut store, settings(difference));
     match pressure::sea_level_pressure(
         &store,
         BarometerReading::Millimetres(Millimetres(Kept { v: 7419 })),
         WheelhouseTemperature(Kept { v: 124 }),
     ) {
-        WorkedPressure::Given(p) => {
-            print!(rt; "pressure")?;
-            say_number(rt, p.0)?;
-            println!(rt)
-        }
-        WorkedPressure::OutsideLimits => println!(rt; "refused 7"),
-        WorkedPressure::OutsideCertificate => println!(rt; "refused 12"),
+        Ok(p) => println!(rt; "pressure {}", p.0.v),
+        Err(PressureRefusal::OutsideLimits) => println!(rt; "refused 7"),
+        Err(PressureRefusal::OutsideCertificate) => println!(rt; "refused 12"),
     }
 }
 
@@ -97,13 +76,8 @@ fn true_wind(
         MetresPerSecond(apparent),
         Degrees(from_bow),
     ) {
-        TrueWind::Blows(v, d) => {
-            print!(rt; "wind")?;
-            say_natural(rt, v.0)?;
-            say_natural(rt, d.0)?;
-            println!(rt)
-        }
-        TrueWind::OutsideLimits => println!(rt; "refused 7"),
+        Some(w) => println!(rt; "wind {} {}", w.speed.0, w.direction.0),
+        None => println!(rt; "refused 7"),
     }
 }
 
@@ -118,22 +92,16 @@ fn humidity_of(rt: &impl Print, state: BulbState, dry: i32, wet: i32) -> io::Res
         pressure,
         a,
     ) {
-        Moisture::Given(h) => {
-            print!(rt; "humidity")?;
-            say_natural(rt, h.e.0)?;
-            say_natural(rt, h.saturation.0)?;
-            say_natural(rt, h.deficit.0)?;
-            say_natural(rt, h.relative)?;
-            let dew = h.dew;
-            say_number(rt, dew.0.number())?;
-            println!(rt)
-        }
-        Moisture::WetAboveDry => println!(rt; "refused 13"),
-        Moisture::TooWarmForIce => println!(rt; "refused 20"),
-        Moisture::UnknownOutsideRange => println!(rt; "refused 21"),
-        Moisture::AboveSaturation => println!(rt; "refused 22"),
-        Moisture::TooDry => println!(rt; "refused 15"),
-        Moisture::OutsideLimits => println!(rt; "refused 7"),
+        Ok(h) => println!(rt;
+            "humidity {} {} {} {} {}",
+            h.e.0, h.saturation.0, h.deficit.0, h.relative, h.dew.0.v
+        ),
+        Err(HumidityRefusal::WetAboveDry) => println!(rt; "refused 13"),
+        Err(HumidityRefusal::TooWarmForIce) => println!(rt; "refused 20"),
+        Err(HumidityRefusal::UnknownOutsideRange) => println!(rt; "refused 21"),
+        Err(HumidityRefusal::AboveSaturation) => println!(rt; "refused 22"),
+        Err(HumidityRefusal::TooDry) => println!(rt; "refused 15"),
+        Err(HumidityRefusal::OutsideLimits) => println!(rt; "refused 7"),
     }
 }
 
@@ -141,35 +109,22 @@ fn humidity_of(rt: &impl Print, state: BulbState, dry: i32, wet: i32) -> io::Res
 fn hear_both(store: &mut Store, low: u8, high: u8) {
     let barometer: [u8; 16] = [0, 0, 0, 0, low, high, 0, 0, 0, 0, 121, 68, 0, 0, 0, 0];
     let thermometer: [u8; 16] = [1, 0, 0, 0, low, high, 0, 0, 0, 0, 64, 65, 0, 0, 0, 0];
-    station::hear(store, &barometer);
-    station::hear(store, &thermometer);
+    let _ = station::hear(store, &barometer);
+    let _ = station::hear(store, &thermometer);
 }
 
 fn say_refusal(rt: &impl Print, r: QuestionRefusal) -> io::Result<()> {
-    print!(rt; "refused")?;
     match station::number(r) {
-        Refused::Plain(n) => say_natural(rt, n)?,
-        Refused::OfMinute(n, m) => {
-            say_natural(rt, n)?;
-            say_natural(rt, m.0)?;
-        }
-        Refused::OfReading(n, c, m) => {
-            say_natural(rt, n)?;
-            say_natural(rt, c)?;
-            say_natural(rt, m.0)?;
-        }
+        Refused::Plain(n) => println!(rt; "refused {n}"),
+        Refused::OfMinute(n, m) => println!(rt; "refused {n} {}", m.0),
+        Refused::OfReading(n, c, m) => println!(rt; "refused {n} {c} {}", m.0),
     }
-    println!(rt)
 }
 
 fn tendency_at(rt: &impl Print, store: &Store, minute: u32) -> io::Result<()> {
     match station::tendency(store, minute) {
-        TendencyAnswer::Given(c, absent) => {
-            print!(rt; "tendency")?;
-            say_number(rt, c.0)?;
-            println!(rt; " {absent}")
-        }
-        TendencyAnswer::Refused(r) => say_refusal(rt, r),
+        Ok(t) => println!(rt; "tendency {} {}", t.change.0.v, t.absent),
+        Err(r) => say_refusal(rt, r),
     }
 }
 
@@ -177,9 +132,9 @@ fn tendency_at(rt: &impl Print, store: &Store, minute: u32) -> io::Result<()> {
 fn watch_with_a_gap(rt: &impl Print) -> io::Result<()> {
     let mut store = [0u64; block::WORDS];
     let first = point(8500, 0);
-    let mut points = [first; 16];
+    let mut points = [first; settings::POINTS];
     points[1] = point(11000, 0);
-    station::open(
+    let _ = station::open(
         &mut store,
         Settings {
             unit: BarometerUnit::Hectopascals,

@@ -8,10 +8,10 @@ ghost use Rattle.listing.specs.Listing.{listed_as};
 ghost use Rattle.watchlog.specs.Placing.{placed_as};
 ghost use Rattle.filed.specs.Files.{file_in, write_in, place_in, list_in};
 
-use listing::Listed;
-use reader::Verdict;
-use watchlog::{NO_RECORD, Placed};
-use writer::Written;
+use listing::TooShort;
+use reader::Broken;
+use watchlog::{NO_RECORD, PlaceRefusal};
+use writer::WriteRefusal;
 
 // A file that was read: 0 and how many records, or 18 and the place.
 #[repr(C)]
@@ -60,16 +60,16 @@ const BROKEN: u32 = 18;
 // ---- reading
 
 // A file that was read: how many records it has, or 18 with the place where it is broken.
-pub fn file_told(verdict: Verdict) -> FileTold
+pub fn file_told(verdict: Result<usize, Broken>) -> FileTold
     ensures { result ≡ file_in (verdict_as verdict) }
 {
     match verdict {
-        Verdict::Good(count) => FileTold {
+        Ok(count) => FileTold {
             number: 0,
             place: 0,
             count,
         },
-        Verdict::Broken(place) => FileTold {
+        Err(Broken(place)) => FileTold {
             number: BROKEN,
             place,
             count: 0,
@@ -80,21 +80,21 @@ pub fn file_told(verdict: Verdict) -> FileTold
 // ---- writing and listing
 
 // What a write came to, as a number with the index or the bytes.
-pub fn write_told(w: Written) -> WriteTold
+pub fn write_told(w: Result<usize, WriteRefusal>) -> WriteTold
     ensures { result ≡ write_in (written_as w) }
 {
     match w {
-        Written::Done(bytes) => WriteTold {
+        Ok(bytes) => WriteTold {
             number: 0,
             index: 0,
             bytes,
         },
-        Written::BreaksRules(index) => WriteTold {
+        Err(WriteRefusal::BreaksRules(index)) => WriteTold {
             number: BREAKS_RULES,
             index,
             bytes: 0,
         },
-        Written::TooShort(bytes) => WriteTold {
+        Err(WriteRefusal::TooShort(bytes)) => WriteTold {
             number: TOO_SHORT,
             index: 0,
             bytes,
@@ -103,35 +103,35 @@ pub fn write_told(w: Written) -> WriteTold
 }
 
 // What placing a record, or taking one out, came to, as a number with the index, the place or the bytes.
-pub fn place_told(p: Placed) -> PlaceTold
+pub fn place_told(p: Result<usize, PlaceRefusal>) -> PlaceTold
     ensures { result ≡ place_in (placed_as p) }
 {
     match p {
-        Placed::Done(bytes) => PlaceTold {
+        Ok(bytes) => PlaceTold {
             number: 0,
             index: 0,
             place: 0,
             bytes,
         },
-        Placed::BreaksRules(index) => PlaceTold {
+        Err(PlaceRefusal::Write(WriteRefusal::BreaksRules(index))) => PlaceTold {
             number: BREAKS_RULES,
             index,
             place: 0,
             bytes: 0,
         },
-        Placed::TooShort(bytes) => PlaceTold {
+        Err(PlaceRefusal::Write(WriteRefusal::TooShort(bytes))) => PlaceTold {
             number: TOO_SHORT,
             index: 0,
             place: 0,
             bytes,
         },
-        Placed::Broken(place) => PlaceTold {
+        Err(PlaceRefusal::Broken(Broken(place))) => PlaceTold {
             number: BROKEN,
             index: 0,
             place,
             bytes: 0,
         },
-        Placed::NoRecord => PlaceTold {
+        Err(PlaceRefusal::NoRecord) => PlaceTold {
             number: NO_RECORD,
             index: 0,
             place: 0,
@@ -141,12 +141,12 @@ pub fn place_told(p: Placed) -> PlaceTold
 }
 
 // What listing came to, as a number with the bytes.
-pub fn listed_told(l: Listed) -> ListTold
+pub fn listed_told(l: Result<usize, TooShort>) -> ListTold
     ensures { result ≡ list_in (listed_as l) }
 {
     match l {
-        Listed::Text(bytes) => ListTold { number: 0, bytes },
-        Listed::TooShort(bytes) => ListTold {
+        Ok(bytes) => ListTold { number: 0, bytes },
+        Err(TooShort(bytes)) => ListTold {
             number: TOO_SHORT,
             bytes,
         },

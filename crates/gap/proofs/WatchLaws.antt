@@ -3,13 +3,14 @@ use mathlib.Core.Path.{◌≡◌, refl, sym, ap, ◌∙◌, subst}
 use mathlib.Core.Bool.{Bool, true, false, not}
 use mathlib.Core.List.{List, [], ◌∷◌}
 use Prim.Native.Nat.{ℕ, ◌<◌}
+use Rattle.std.specs.Prelude.{Option, Some, None, is_some, Result, Ok, Err, is_ok}
 use lib.Dec.{leb, lit<}
 use lib.Ieee.{of_bits}
 use lib.IntN.{pos}
 use borrow.Author.Tests.{leb-true}
 use Rattle.number.specs.Round.{nearest}
 use Rattle.number.specs.Refusal.{Numbered, Answer, refused, given, answer}
-use Rattle.number.proofs.Sizes.{impossible}
+use Rattle.number.proofs.Sizes.{impossible, never}
 use Rattle.quantity.specs.Limits.{minutes_between}
 use Rattle.quantity.specs.declared.BarometerUnit.TheVariants.{Hectopascals}
 use Rattle.message.specs.Value.{to_whole}
@@ -18,14 +19,38 @@ use Rattle.settings.specs.Settings.{every, certificate_holds, anemometer_holds, 
 use Rattle.window.specs.Window.{absents}
 use Rattle.cell.specs.Cells.{CHANNELS, is_present}
 use Rattle.store.specs.Block.{opened_by, is_given, heard_as, outcome, Hears, recall_of, absent_of}
-use Rattle.cell.specs.Cells.{Recall}
+use Rattle.cell.specs.Cells.{Recall, recalled_as}
 use Rattle.store.specs.History.{Sent, bytes, next_of, history, remembered, Remembers}
-use Rattle.store.specs.declared.Hearing.{Hearing}
+use Rattle.settings.specs.Settings.{checked_as}
+use Rattle.settings.specs.declared.SettingsRefusal.{SettingsRefusal}
+use Rattle.settings.specs.declared.SettingsRefusal.TheVariants.{OutsideLimits, CertificateBroken, AnemometerBroken}
+use Rattle.message.specs.declared.Reading.{Reading}
+use Rattle.store.specs.declared.HearingRefusal.{HearingRefusal}
 use Rattle.store.proofs.NewestLaws.{later}
 use Rattle.store.proofs.OpenLaws.{opens}
 use Rattle.store.proofs.HistoryLaws.{opened_remembers, heard_remembers, by_newest}
 use Rattle.store.proofs.StoreTheorems.{absent_count}
 use Rattle.gap.specs.Watch.{ship, sent, to_100, to_280, to_400, pressure_in, temperature_in}
+
+-- ---- what the library's tests say
+
+good_is_ok : (r : Result (Unit {0}) SettingsRefusal) → is_given (checked_as r) ≡ true → is_ok r ≡ true
+good_is_ok (Ok u) e = refl
+good_is_ok (Err OutsideLimits) g = g
+good_is_ok (Err CertificateBroken) g = g
+good_is_ok (Err AnemometerBroken) g = g
+
+heard_is_ok : (h : Result (Unit {0}) HearingRefusal) → is_given (heard_as h) ≡ true → is_ok h ≡ true
+heard_is_ok (Ok u) e = refl
+heard_is_ok (Err r) e = e
+
+is_none_by : (x : Option Reading) (m : ℕ) (r : Bool) → not (is_present (recalled_as m x)) ≡ true → is_some x ≡ not r → r ≡ true
+is_none_by None m true h k = refl
+is_none_by None m false h k = k
+is_none_by (Some x) m r h k = never h
+
+pub missing_is_none : (x : Option Reading) (m : ℕ) {y : Recall} {r : Bool} → recalled_as m x ≡ y → not (is_present y) ≡ true → is_some x ≡ not r → r ≡ true
+missing_is_none x m {y} {r} e h k = is_none_by x m r (ap (λ (z : Recall). not (is_present z)) e ∙ h) k
 
 -- ---- any messages
 
@@ -33,6 +58,9 @@ use Rattle.gap.specs.Watch.{ship, sent, to_100, to_280, to_400, pressure_in, tem
 pub good : checked ship ≡ given tt
 unfolding every certificate_holds anemometer_holds others_hold checked answer
 good = refl
+
+pub good_opens : (r : Result (Unit {0}) SettingsRefusal) → checked_as r ≡ checked ship → is_ok r ≡ true
+good_opens r e = good_is_ok r (ap is_given (e ∙ good))
 
 -- The opened station remembers nothing.
 pub opened_well : (s : List ℕ) → Remembers (opened_by s ship) ship []
@@ -46,9 +74,9 @@ is_later_than M (given e) = leb (next_of (history ship e.channel M)) e.minute
 abbrev pub is_new : List Sent → List ℕ → Bool
 is_new M m = is_later_than M (received Hectopascals m)
 
-module _ {s s' m : List ℕ} {h : Hearing} {M : List Sent} (heard : Hears s s' m h) (r : Remembers s ship M) where
-  pub is_heard : is_new M m ≡ true → is_given (heard_as h) ≡ true
-  is_heard new = go (received Hectopascals m) refl new
+module _ {s s' m : List ℕ} {h : Result (Unit {0}) HearingRefusal} {M : List Sent} (heard : Hears s s' m h) (r : Remembers s ship M) where
+  pub is_heard : is_new M m ≡ true → is_ok h ≡ true
+  is_heard new = heard_is_ok h (go (received Hectopascals m) refl new)
     where
       go : (a : Answer ℕ Entry) → received Hectopascals m ≡ a → is_later_than M a ≡ true → is_given (heard_as h) ≡ true
       go (refused n) g t = impossible (cc)

@@ -1,23 +1,20 @@
 // A watch with a gap: barometer and thermometer at minutes 100 and 280 only, then at 400.
 #![tactic(auto)]
 
-ghost use Rattle.std.specs.Prelude.{◌≡◌, true, not, [], ℕ};
-ghost use Rattle.settings.specs.Settings.{checked_as};
-ghost use Rattle.store.specs.Block.{is_given, heard_as, recall_of};
-ghost use Rattle.cell.specs.Cells.{recalled_as, is_present};
+ghost use Rattle.std.specs.Prelude.{◌≡◌, true, [], ℕ};
+ghost use Rattle.store.specs.Block.{recall_of};
+ghost use Rattle.cell.specs.Cells.{recalled_as};
 ghost use Rattle.store.specs.History.{Remembers};
 ghost use Rattle.gap.specs.Watch.{ship, to_100, to_280, to_400, pressure_in, temperature_in};
 
 use block::Store;
-use cell::Recalled;
 use message::Reading;
 use number::Kept;
 use quantity::BarometerUnit;
 use settings::{
-    Anemometer, Checked, Correction, Height, Point, PsychrometerCoefficient, Rate, RatePoint,
-    SeaLevelDifference, Settings, TemperatureCoefficient,
+    Anemometer, Correction, Height, Point, PsychrometerCoefficient, RatePoint, SeaLevelDifference,
+    Settings, TemperatureCoefficient,
 };
-use store::Hearing;
 
 // What has to hold, which each caller proves.
 fn expect(holds: bool)
@@ -26,83 +23,23 @@ fn expect(holds: bool)
     prove!(holds);
 }
 
-// Whether the settings were good.
-fn is_good(c: Checked) -> bool
-    ensures { result ≡ is_given (checked_as c) }
-{
-    match c {
-        Checked::Good => true,
-        Checked::OutsideLimits => false,
-        Checked::CertificateBroken => false,
-        Checked::AnemometerBroken => false,
-    }
-}
-
-// Whether a message was heard.
-fn is_heard(h: Hearing) -> bool
-    ensures { result ≡ is_given (heard_as h) }
-{
-    match h {
-        Hearing::Heard => true,
-        Hearing::Refused(_) => false,
-        Hearing::Repeated => false,
-        Hearing::Late(_) => false,
-        Hearing::OutsideDial => false,
-        Hearing::NoCourse(_) => false,
-        Hearing::OutsideAnemometer => false,
-        Hearing::NoStore => false,
-    }
-}
-
-// Whether nothing is kept.
-fn is_missing(x: Recalled) -> bool
-    ensures { (m : ℕ) → result ≡ not (is_present (recalled_as m x)) }
-{
-    match x {
-        Recalled::Missing => true,
-        Recalled::Kept(_) => false,
-    }
-}
-
 // The pressure that is kept, in tenths of hPa; 0 where none is.
-fn pressure_in(x: Recalled) -> u64
+fn pressure_in(x: Option<Reading>) -> u64
     ensures { (m : ℕ) → result ≡ pressure_in (recalled_as m x) }
 {
     match x {
-        Recalled::Missing => 0,
-        Recalled::Kept(reading) => match reading {
-            Reading::Hectopascals(p) => {
-                let n = p.0;
-                n.size()
-            }
-            Reading::Millimetres(_) => 0,
-            Reading::Wheelhouse(_) => 0,
-            Reading::ApparentWind(_, _) => 0,
-            Reading::ShipMotion(_, _) => 0,
-            Reading::DryBulb(_) => 0,
-            Reading::WetBulb(_, _) => 0,
-        },
+        Some(Reading::Hectopascals(p)) => p.0.size(),
+        _ => 0,
     }
 }
 
 // The wheelhouse's temperature that is kept, in tenths of °C without its sign; 0 where none is.
-fn temperature_in(x: Recalled) -> u64
+fn temperature_in(x: Option<Reading>) -> u64
     ensures { (m : ℕ) → result ≡ temperature_in (recalled_as m x) }
 {
     match x {
-        Recalled::Missing => 0,
-        Recalled::Kept(reading) => match reading {
-            Reading::Hectopascals(_) => 0,
-            Reading::Millimetres(_) => 0,
-            Reading::Wheelhouse(t) => {
-                let n = t.0;
-                n.number().size()
-            }
-            Reading::ApparentWind(_, _) => 0,
-            Reading::ShipMotion(_, _) => 0,
-            Reading::DryBulb(_) => 0,
-            Reading::WetBulb(_, _) => 0,
-        },
+        Some(Reading::Wheelhouse(t)) => t.0.number().size(),
+        _ => 0,
     }
 }
 
@@ -120,13 +57,6 @@ fn temperature_at(store: &Store, minute: u32) -> u64
     temperature_in(store::recall(store, 1, minute))
 }
 
-// Whether a channel keeps nothing of a minute.
-fn is_missing_at(store: &Store, channel: u32, minute: u32) -> bool
-    ensures { result ≡ not (is_present (recall_of store.now channel minute)) }
-{
-    is_missing(store::recall(store, channel, minute))
-}
-
 // The settings of a station at the sea's height, with a barometer in hPa that needs no correction, and no anemometer.
 fn settings() -> Settings
     ensures { result ≡ ship }
@@ -139,15 +69,7 @@ fn settings() -> Settings
         reading: Kept { v: 11000 },
         correction: Correction(Kept { v: 0 }),
     };
-    let nowhere = Point {
-        reading: Kept { v: 0 },
-        correction: Correction(Kept { v: 0 }),
-    };
-    let mut points = [nowhere; settings::POINTS];
-    let none = RatePoint {
-        rate: Rate(Kept { v: 0 }),
-        speed: Kept { v: 0 },
-    };
+    let mut points = [Point::NOWHERE; settings::POINTS];
     points[0] = low;
     points[1] = high;
     Settings {
@@ -157,10 +79,10 @@ fn settings() -> Settings
         coefficient: TemperatureCoefficient(Kept { v: 0 }),
         psychrometer: PsychrometerCoefficient(Kept { v: 662 }),
         count: 2,
-        points: points,
+        points,
         anemometer: Anemometer {
             count: 0,
-            points: [none; settings::RATES],
+            points: [RatePoint::NONE; settings::RATES],
         },
     }
 }
@@ -169,7 +91,7 @@ fn settings() -> Settings
 fn open(store: &mut Store)
     ensures { Remembers store.new ship [] }
 {
-    expect(is_good(store::open(store, settings())));
+    expect(store::open(store, settings()).is_ok());
 }
 
 // Hears both instruments at minute 100: 1013.2 hPa and 12.5 °C.
@@ -179,8 +101,8 @@ fn hear_at_100(store: &mut Store)
 {
     let barometer: [u8; 16] = [0, 0, 0, 0, 100, 0, 0, 0, 205, 76, 125, 68, 0, 0, 0, 0];
     let thermometer: [u8; 16] = [1, 0, 0, 0, 100, 0, 0, 0, 0, 0, 72, 65, 0, 0, 0, 0];
-    expect(is_heard(store::hear(store, &barometer)));
-    expect(is_heard(store::hear(store, &thermometer)));
+    expect(store::hear(store, &barometer).is_ok());
+    expect(store::hear(store, &thermometer).is_ok());
 }
 
 // And at minute 280: 1009.7 hPa and 13.0 °C.
@@ -190,8 +112,8 @@ fn hear_at_280(store: &mut Store)
 {
     let barometer: [u8; 16] = [0, 0, 0, 0, 24, 1, 0, 0, 205, 108, 124, 68, 0, 0, 0, 0];
     let thermometer: [u8; 16] = [1, 0, 0, 0, 24, 1, 0, 0, 0, 0, 80, 65, 0, 0, 0, 0];
-    expect(is_heard(store::hear(store, &barometer)));
-    expect(is_heard(store::hear(store, &thermometer)));
+    expect(store::hear(store, &barometer).is_ok());
+    expect(store::hear(store, &thermometer).is_ok());
 }
 
 // And at minute 400: 1008.4 hPa and 13.5 °C.
@@ -201,8 +123,8 @@ fn hear_at_400(store: &mut Store)
 {
     let barometer: [u8; 16] = [0, 0, 0, 0, 144, 1, 0, 0, 154, 25, 124, 68, 0, 0, 0, 0];
     let thermometer: [u8; 16] = [1, 0, 0, 0, 144, 1, 0, 0, 0, 0, 88, 65, 0, 0, 0, 0];
-    expect(is_heard(store::hear(store, &barometer)));
-    expect(is_heard(store::hear(store, &thermometer)));
+    expect(store::hear(store, &barometer).is_ok());
+    expect(store::hear(store, &thermometer).is_ok());
 }
 
 // At minute 280 both minutes heard are kept, and all 179 between them are absent.
@@ -221,10 +143,10 @@ fn ask_at_280(store: &Store)
 fn ask_at_400(store: &Store)
     requires { Remembers store.now ship to_400 }
 {
-    expect(is_missing_at(store, 0, 220));
-    expect(is_missing_at(store, 1, 220));
-    expect(is_missing_at(store, 0, 100));
-    expect(is_missing_at(store, 1, 100));
+    expect(store::recall(store, 0, 220).is_none());
+    expect(store::recall(store, 1, 220).is_none());
+    expect(store::recall(store, 0, 100).is_none());
+    expect(store::recall(store, 1, 100).is_none());
     expect(pressure_at(store, 280) == 10097);
     expect(temperature_at(store, 280) == 130);
 }

@@ -9,6 +9,7 @@ use lib.Dec.{eqb, ltb, lit<}
 use lib.ListN.{get_or, take}
 use lib.Seq.{get_or-take}
 use borrow.Author.Tests.{ltb-true, eqb-true, not-false}
+use Rattle.std.specs.Prelude.{Result}
 use Rattle.number.specs.Refusal.{given}
 use Rattle.number.proofs.Sizes.{and_true, never}
 use Rattle.quantity.specs.Limits.{inside, recorded_pressure}
@@ -25,12 +26,13 @@ use Rattle.store.proofs.StoreTheorems.{absent_count}
 use Rattle.block.proofs.SettingsLaws.{settings_back, others}
 use Rattle.pressure.specs.Pressure.{Barometer, barometer_in, barometer_of}
 use Rattle.pressure.proofs.PressureTheorems.{Alike, opened_alike, station_recorded}
+use Rattle.humidity.specs.declared.HumidityFigures.{HumidityFigures}
 use Rattle.station.specs.Source.{heard, held, reading_at}
 use Rattle.store.specs.Block.{no_store}
 use Rattle.station.specs.Questions.{Asked, question, Reply, is_in, AnsweredBy, Tells, TellsOf, too_late, missing_at, outside_at, station_at, HumidityRule, humidity_tests, foreign, foreign_to}
 use Rattle.station.specs.Questions as asked
 use Rattle.station.specs.Told.{humidity_as}
-use Rattle.station.specs.declared.HumidityAnswer.{HumidityAnswer}
+use Rattle.station.specs.declared.QuestionRefusal.{QuestionRefusal}
 use Rattle.station.proofs.AnswerLaws.{carry, leave_out, lets_pass}
 use Rattle.station.proofs.KeptLaws.{number_of, first_inside}
 use Rattle.station.proofs.SourceLaws.{Agree, agree_tells, station_same}
@@ -163,7 +165,7 @@ module _ (g : Settings) (good : checked g ≡ given tt) where
           (w tables tabled)
 
       -- the test that document 01 does not have among its own never refuses
-      without_foreign : (r : HumidityAnswer) → AnsweredBy asked.humidity [] (foreign (held (store_of g M)) m) (held (store_of g M)) m r
+      without_foreign : (r : Result HumidityFigures QuestionRefusal) → AnsweredBy asked.humidity [] (foreign (held (store_of g M)) m) (held (store_of g M)) m r
           → Tells asked.humidity (held (store_of g M)) m r
       without_foreign r w tables tabled =
           let S = held (store_of g M) in

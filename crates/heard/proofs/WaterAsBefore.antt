@@ -7,6 +7,7 @@ use Prim.Native.Nat.{ℕ}
 use lib.Dec.{lit<}
 use lib.IntN.{ℤ}
 use borrow.Author.Tests.{not-false}
+use Rattle.std.specs.Prelude.{Result}
 use Rattle.number.specs.Refusal.{Numbered, Test, test, given, answer}
 use Rattle.number.proofs.Sizes.{both}
 use Rattle.quantity.specs.declared.BulbState.{BulbState}
@@ -17,12 +18,13 @@ use Rattle.vapour.specs.Vapour.{Tables, AreTables}
 use Rattle.humidity.specs.Humidity.{vapour_pressure, wet_above_dry, too_warm_for_ice, unknown_outside, above_saturation, too_dry}
 use Rattle.humidity.proofs.VapourPressureLaws.{water_under}
 use Rattle.store.specs.History.{Sent}
+use Rattle.humidity.specs.declared.HumidityFigures.{HumidityFigures}
 use Rattle.station.specs.Source.{Source, heard}
 use Rattle.station.specs.Questions.{Answers, Tells, too_late, missing_at, outside_at, dry_at, wet_at, state_at, station_at, humidity_tests, HumidityRule}
 use Rattle.station.specs.Questions as asked
 use Rattle.station.specs.Told.{humidity_as}
 use Rattle.station.specs.Before.{humidity_tests_before}
-use Rattle.station.specs.declared.HumidityAnswer.{HumidityAnswer}
+use Rattle.station.specs.declared.QuestionRefusal.{QuestionRefusal}
 use Rattle.station.proofs.AnswerLaws.{carry, leave_out, lets_pass}
 use Rattle.heard.proofs.StoreLaws.{heard_inside, never_foreign}
 
@@ -69,7 +71,7 @@ module _ (g : Settings) (good : checked g ≡ given tt) (M : List Sent) (m : ℕ
       ∙ leave_out (to_13 Water) from_22 (test 21 [] (unknown_outside Water (dry_at S m))) (λ p. refl)
       ∙ leave_out (to_13 Water) last (test 22 [] (above_saturation (tables.over_water (dry_at S m)) e)) not_above)
 
-  pub water_as_document_01 : (x : HumidityAnswer) → Tells asked.humidity (heard g M) m x
+  pub water_as_document_01 : (x : Result HumidityFigures QuestionRefusal) → Tells asked.humidity (heard g M) m x
       → Answers (humidity_tests_before tables.over_water (heard g M) m) (HumidityRule (heard g M) m) (humidity_as x)
   water_as_document_01 x w =
       carry (humidity_tests [] tables S m) (humidity_tests_before tables.over_water S m) (HumidityRule S m) (HumidityRule S m) (humidity_as x) same_tests (λ h r. r)

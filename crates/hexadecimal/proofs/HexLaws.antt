@@ -2,7 +2,7 @@
 use mathlib.Core.Path.{◌≡◌, refl, ap, ◌∙◌}
 use mathlib.Core.Bool.{Bool, true, false, ◌&&◌, cond}
 use mathlib.Core.List.{List, [], ◌∷◌}
-use Prim.Native.Nat.{ℕ, suc, ◌+◌, ◌-◌, ◌*◌, ◌/◌, ◌%◌, ◌≤◌, ◌<◌}
+use Prim.Native.Nat.{ℕ, suc, ◌+◌, ◌*◌, ◌/◌, ◌%◌, ◌≤◌, ◌<◌}
 use native.Mathlib.Omega.{arith}
 use native.Mathlib.Nat.{zero-add}
 use native.Mathlib.Numerals.{add-one}
@@ -11,11 +11,13 @@ use lib.ListN.{length, get_or, set, drop, length-drop, drop_of_length-le}
 use lib.Seq.{drop-cons, sets, sets-eq}
 use borrow.Author.Tests.{le-leb, lt-leb, eqb-true, eqb-false, lt-ltb, le-ltb, ltb-true, ltb-false}
 use Rattle.number.proofs.Sizes.{and_true}
-use Rattle.text.specs.Text.{Put}
-use Rattle.text.proofs.PutLaws.{join}
+use Rattle.text.specs.Text.{Puts}
+use Rattle.text.specs.declared.Page.{Page}
+use Rattle.text.proofs.PutLaws.{then}
 use Rattle.hexadecimal.specs.Row.{row}
 use Rattle.hexadecimal.specs.Hex.{hex_digit, hex_value, is_hex, hex_bytes, Unhexes, digit16, hex_of, hex}
-use Rattle.hexadecimal.specs.declared.Unhexed.TheVariants.{Bytes, NotHex, NoRoom}
+use Rattle.std.specs.Prelude.{Ok, Err}
+use Rattle.hexadecimal.specs.declared.HexRefusal.TheVariants.{NotHex, NoRoom}
 
 -- whether a byte lies in a range
 pub range_in : (low b high : ℕ) → low ≤ b → b ≤ high → (leb low b && leb b high) ≡ true
@@ -81,12 +83,11 @@ unfolding hex_bytes
 bytes_on s i h = rw (pair s i h)
 
 -- one byte is laid, and those behind it
-pub lay_on : (word bytes : List ℕ) (i k v : ℕ) → i + 1 < length word → v ≡ 16 * hex_value (get_or word i 0) + hex_value (get_or word (i + 1) 0)
-    → sets bytes k (hex_bytes (drop i word)) ≡ sets (set bytes k v) (k + 1) (hex_bytes (drop (i + 2) word))
-lay_on word bytes i k v h e = rw (bytes_on word i h, add-one k, e)
-
-pub room_on : (word : List ℕ) (i : ℕ) → i + 1 < length word → length (hex_bytes (drop i word)) ≡ length (hex_bytes (drop (i + 2) word)) + 1
-room_on word i h = rw (bytes_on word i h) (omega arith)
+pub lay_on : (word bytes : List ℕ) (i v : ℕ) → 2 * i + 1 < length word → v ≡ 16 * hex_value (get_or word (2 * i) 0) + hex_value (get_or word (2 * i + 1) 0)
+    → sets bytes i (hex_bytes (drop (2 * i) word)) ≡ sets (set bytes i v) (i + 1) (hex_bytes (drop (2 * (i + 1)) word))
+lay_on word bytes i v h e =
+    let on : 2 * (i + 1) ≡ 2 * i + 2 = omega arith in
+    rw (on, bytes_on word (2 * i) h, add-one i, e)
 
 short : (s : List ℕ) → length s ≤ 1 → hex_bytes s ≡ []
 unfolding hex_bytes
@@ -105,20 +106,20 @@ bytes_length (a ∷ b ∷ s) = omega (arith, bytes_length s)
 
 -- ---- what a word in hex comes to
 
-pub not_hex : (word bytes : List ℕ) → is_hex word ≡ false → Unhexes word bytes bytes NotHex
+pub not_hex : (word bytes : List ℕ) → is_hex word ≡ false → Unhexes word bytes bytes (Err NotHex)
 not_hex word bytes e = record { answer = rw e; bytes = rw e }
 
-pub no_room : (word bytes : List ℕ) (count : ℕ) → is_hex word ≡ true → count ≡ length word / 2 → length bytes < count → Unhexes word bytes bytes NoRoom
+pub no_room : (word bytes : List ℕ) (count : ℕ) → is_hex word ≡ true → count ≡ length word / 2 → length bytes < count → Unhexes word bytes bytes (Err NoRoom)
 no_room word bytes count e n h =
     let l : leb (length (hex_bytes word)) (length bytes) ≡ false = lt-leb (length (hex_bytes word)) (length bytes) (omega (arith, bytes_length word)) in
     record { answer = rw (e, l); bytes = rw (e, l) }
 
-pub all_laid : (word before after : List ℕ) (count : ℕ) → is_hex word ≡ true → count ≡ length word / 2 → count ≤ length before → after ≡ sets before 0 (hex_bytes word) → Unhexes word before after (Bytes count)
+pub all_laid : (word before after : List ℕ) (count : ℕ) → is_hex word ≡ true → count ≡ length word / 2 → count ≤ length before → after ≡ sets before 0 (hex_bytes word) → Unhexes word before after (Ok count)
 all_laid word before after count e n h a =
     let c : count ≡ length (hex_bytes word) = omega (arith, bytes_length word) in
     let l : leb (length (hex_bytes word)) (length before) ≡ true = le-leb (length (hex_bytes word)) (length before) (omega arith) in
     record {
-      answer = rw (e, l) (ap Bytes c);
+      answer = rw (e, l) (ap Ok c);
       bytes = rw (e, l) (a ∙ sets-eq (hex_bytes word) before 0 (omega arith) ∙ rw (zero-add (length (hex_bytes word))));
     }
 
@@ -161,6 +162,6 @@ hex_read_back (b ∷ bytes) h =
     (rw (first, second, lt-ltb (b / 16) 16 (omega arith), lt-ltb (b % 16) 16 (omega arith)) rest.0, rw (first, second, e, rest.1))
 
 -- the two digits of a byte, one behind the other
-pub put_byte : {b b₁ b₂ : List ℕ} {at k₁ k₂ first second : ℕ} (n : ℕ) → first ≡ digit16 (n / 16) → second ≡ digit16 (n % 16)
-    → Put b b₁ at (first ∷ []) k₁ → Put b₁ b₂ k₁ (second ∷ []) k₂ → Put b b₂ at (hex_of n) k₂
-put_byte n e f p q = rw (← e, ← f) (join p q)
+pub put_byte : {p q r : Page} {first second : ℕ} (n : ℕ) → first ≡ digit16 (n / 16) → second ≡ digit16 (n % 16)
+    → Puts p q (first ∷ []) → Puts q r (second ∷ []) → Puts p r (hex_of n)
+put_byte n e f p q = rw (← e, ← f) (then p q)

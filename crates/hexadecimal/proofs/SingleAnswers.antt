@@ -1,7 +1,8 @@
--- Each public contract of this crate allows a single answer: it gives the result, and the bytes of the buffer, as functions of the
--- arguments. Assumes nothing.
+-- Each public contract of this crate allows a single answer: it gives the result, the bytes of the buffer, and the page that is left, as
+-- functions of the arguments. Assumes nothing.
 use mathlib.Core.Path.{sym, ◌∙◌}
 use Rattle.number.specs.Single.{Single, SingleLeft}
+use Rattle.text.proofs.SingleAnswers.{words_of, left}
 use Rattle.hexadecimal.proofs.is_hex.Reads as is-hex
 use Rattle.hexadecimal.proofs.unhex.Reads as unhex
 use Rattle.hexadecimal.proofs.put_hex.Reads as put-hex
@@ -16,8 +17,5 @@ single_unhex κs a r r' s s' p q = p.answer ∙ sym q.answer
 pub single_unhex_bytes : SingleLeft unhex.Post (λ κs s. s.1.0.now)
 single_unhex_bytes κs a r r' s s' p q = p.bytes ∙ sym q.bytes
 
-pub single_put_hex : Single put-hex.Post
-single_put_hex κs a r r' s s' p q = p.next ∙ sym q.next
-
-pub single_put_hex_text : SingleLeft put-hex.Post (λ κs s. s.0.now)
-single_put_hex_text κs a r r' s s' p q = p.laid ∙ sym q.laid
+pub single_put_hex_page : SingleLeft put-hex.Post (λ κs s. words_of s.0.now)
+single_put_hex_page κs a r r' s s' p q = left p q

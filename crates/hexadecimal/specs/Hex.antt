@@ -1,10 +1,10 @@
 -- Bytes in hex: two digits each. Read in either case, written in lower case.
-use Rattle.std.specs.Prelude.{◌≡◌, Bool, true, false, ◌&&◌, cond, List, [], ◌∷◌, ◌++◌, ℕ, ◌+◌, ◌*◌, ◌-◌, ◌/◌, ◌%◌, leb, ltb, length, drop}
+use Rattle.std.specs.Prelude.{◌≡◌, Bool, true, false, ◌&&◌, cond, List, [], ◌∷◌, ◌++◌, ℕ, ◌+◌, ◌*◌, ◌-◌, ◌/◌, ◌%◌, leb, ltb, length, drop, Result, Ok, Err}
 use Rattle.text.specs.Text.{digit as byte_of}
 use Rattle.line.specs.Numeral.{digit}
 use Rattle.hexadecimal.specs.Row.{row}
-use Rattle.hexadecimal.specs.declared.Unhexed.{Unhexed}
-use Rattle.hexadecimal.specs.declared.Unhexed.TheVariants.{Bytes, NotHex, NoRoom}
+use Rattle.hexadecimal.specs.declared.HexRefusal.{HexRefusal}
+use Rattle.hexadecimal.specs.declared.HexRefusal.TheVariants.{NotHex, NoRoom}
 
 -- ---- from text
 
@@ -36,8 +36,8 @@ hex_bytes (a ∷ b ∷ s) = (16 * hex_value a + hex_value b) ∷ hex_bytes s
 
 -- A word in hex becomes bytes at the start of a lent buffer, and behind them stays what stood there. A word that is not hex, or
 -- whose bytes have no room, leaves all of it.
-pub record Unhexes (word before after : List ℕ) (r : Unhexed) : Type 0 where
-  pub answer : r ≡ cond (is_hex word) (cond (leb (length (hex_bytes word)) (length before)) (Bytes (length (hex_bytes word))) NoRoom) NotHex
+pub record Unhexes (word before after : List ℕ) (r : Result ℕ HexRefusal) : Type 0 where
+  pub answer : r ≡ cond (is_hex word) (cond (leb (length (hex_bytes word)) (length before)) (Ok (length (hex_bytes word))) (Err NoRoom)) (Err NotHex)
   pub bytes : after ≡ cond (is_hex word && leb (length (hex_bytes word)) (length before)) (hex_bytes word ++ drop (length (hex_bytes word)) before) before
 
 -- ---- to text

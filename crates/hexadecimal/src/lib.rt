@@ -2,43 +2,33 @@
 #![tactic(auto)]
 
 ghost use Rattle.std.specs.Prelude.{◌≡◌, ◌<◌};
-ghost use Rattle.text.specs.Text.{Put};
+ghost use Rattle.text.specs.Text.{Puts};
 ghost use Rattle.hexadecimal.specs.Hex.{hex_value, is_hex, Unhexes, digit16, hex};
 
-// What a word in hex comes to.
+use text::Page;
+
+// Why a word gives no bytes.
 #[derive(Clone, Copy)]
-pub enum Unhexed {
-    // how many bytes
-    Bytes(usize),
+pub enum HexRefusal {
+    // it is not an even number of hex digits
     NotHex,
+    // the lent buffer is too short for them
     NoRoom,
 }
 
 // ---- from text
 
 // What a hex digit of either case stands for, and 16 for any other byte.
+#[tactic(auto, unfolding(crate::specs::Hex::hex_value))]
 fn hex_value(b: u8) -> u8
     ensures { result ≡ hex_value b }
 {
-    if b < b'0' {
-        return 16;
+    match b {
+        b'0'..=b'9' => b - b'0',
+        b'A'..=b'F' => b - b'A' + 10,
+        b'a'..=b'f' => b - b'a' + 10,
+        _ => 16,
     }
-    if b <= b'9' {
-        return b - b'0';
-    }
-    if b < b'A' {
-        return 16;
-    }
-    if b <= b'F' {
-        return b - b'A' + 10;
-    }
-    if b < b'a' {
-        return 16;
-    }
-    if b <= b'f' {
-        return b - b'a' + 10;
-    }
-    16
 }
 
 // Whether a word is an even number of hex digits.
@@ -46,6 +36,7 @@ pub fn is_hex(word: &[u8]) -> bool
     ensures { result ≡ is_hex word.now }
 {
     let mut i = 0;
+    // A `while`, since a turn takes two digits and may leave one: in chunks of two, each would be asked for its length.
     while i + 1 < word.len() {
         if 15 < hex_value(word[i]) {
             return false;
@@ -59,24 +50,20 @@ pub fn is_hex(word: &[u8]) -> bool
 }
 
 // The bytes that a word in hex says, at the start of a lent buffer: how many.
-pub fn unhex(word: &[u8], bytes: &mut [u8]) -> Unhexed
+pub fn unhex(word: &[u8], bytes: &mut [u8]) -> Result<usize, HexRefusal>
     ensures { Unhexes word.now bytes.old bytes.new result }
 {
     if !is_hex(word) {
-        return Unhexed::NotHex;
+        return Err(HexRefusal::NotHex);
     }
     let count = word.len() / 2;
     if bytes.len() < count {
-        return Unhexed::NoRoom;
+        return Err(HexRefusal::NoRoom);
     }
-    let mut i = 0;
-    let mut k = 0;
-    while i + 1 < word.len() {
-        bytes[k] = 16 * hex_value(word[i]) + hex_value(word[i + 1]);
-        k += 1;
-        i += 2;
+    for i in 0..count {
+        bytes[i] = 16 * hex_value(word[2 * i]) + hex_value(word[2 * i + 1]);
     }
-    Unhexed::Bytes(count)
+    Ok(count)
 }
 
 // ---- to text
@@ -89,20 +76,14 @@ fn digit16(d: u8) -> u8
     if d < 10 { 48 + d } else { 87 + d }
 }
 
-// Puts the digits of bytes. The place behind them.
-pub fn put_hex(text: &mut [u8], at: usize, bytes: &[u8]) -> usize
-    ensures { Put text.old text.new at (hex bytes.now) result }
+// Puts the digits of bytes.
+pub fn put_hex(page: &mut Page<'_>, bytes: &[u8])
+    ensures { Puts page.old page.new (hex bytes.now) }
 {
-    if text.len() < at {
-        return text.len();
+    // a place beyond the end becomes the end, with no bytes too
+    page.bytes(b"");
+    for b in bytes {
+        page.byte(digit16(*b / 16));
+        page.byte(digit16(*b % 16));
     }
-    let mut place = at;
-    let mut i = 0;
-    while i < bytes.len() {
-        let b = bytes[i];
-        let second = text::put_byte(text, place, digit16(b / 16));
-        place = text::put_byte(text, second, digit16(b % 16));
-        i += 1;
-    }
-    place
 }

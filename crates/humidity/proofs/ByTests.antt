@@ -1,4 +1,5 @@
 -- A worked case from tests that are computed: entries and dew point by the series, the rest by their rules. Assumes nothing.
+use Rattle.std.specs.Prelude.{Result, Ok}
 use mathlib.Core.Path.{◌≡◌}
 use mathlib.Core.Bool.{Bool, ◌&&◌}
 use Prim.Native.Nat.{ℕ}
@@ -13,8 +14,7 @@ use Rattle.vapour.proofs.SaturationLaws.{near_test, near_by_test}
 use Rattle.vapour.proofs.DewLaws.{dew_test, dew_by_test}
 use Rattle.humidity.specs.Humidity.{vapour_pressure, EntriesFor, tests, moisture_as, IsMoisture}
 use Rattle.humidity.specs.declared.HumidityFigures.{HumidityFigures}
-use Rattle.humidity.specs.declared.Moisture.{Moisture}
-use Rattle.humidity.specs.declared.Moisture.TheVariants.{Given}
+use Rattle.humidity.specs.declared.HumidityRefusal.{HumidityRefusal}
 use Rattle.humidity.proofs.MoistureLaws.{none, refused_so}
 
 -- the entries that a state asks for
@@ -41,7 +41,7 @@ module _ (s : BulbState) (dry wet p a : ℤ) (w i : ℕ) where
       → given h ≡ answer (tests s dry wet p a h.saturation.0 (vapour_pressure s w i a p dry wet)) h
       → pos h.e.0 ≡ vapour_pressure s w i a p dry wet
       → h.deficit.0 ≡ vapour_deficit h.e.0 h.saturation.0 → h.relative ≡ relative_humidity h.e.0 h.saturation.0
-      → IsMoisture s dry wet p a (Given h)
+      → IsMoisture s dry wet p a (Ok h)
   by_tests h tw td te first e d r =
       record {
         d = h.saturation.0;
@@ -62,7 +62,7 @@ module _ (s : BulbState) (dry wet p a : ℤ) (w i : ℕ) where
       }
 
   -- d is the dry bulb's entry, m the refusal
-  pub refused_by_tests : (d : ℕ) (m : Moisture) → T (entries_test s wet w i) → T (near_test water dry d)
+  pub refused_by_tests : (d : ℕ) (m : Result HumidityFigures HumidityRefusal) → T (entries_test s wet w i) → T (near_test water dry d)
       → moisture_as m ≡ answer (tests s dry wet p a d (vapour_pressure s w i a p dry wet)) none
-      → (m ≡ Given none → ⊥) → IsMoisture s dry wet p a m
+      → (m ≡ Ok none → ⊥) → IsMoisture s dry wet p a m
   refused_by_tests d m tw td = refused_so s dry wet p a d w i (near_by_test water dry d td) (entries_by_test s wet w i tw) m

@@ -1,5 +1,6 @@
 -- Cases that decide between the rules of W3 and others that a person would write, at 1000.0 hPa with A 662: by computing. Assumes
 -- nothing.
+use Rattle.std.specs.Prelude.{Result, Ok, Err}
 use mathlib.Core.Path.{◌≡◌, refl}
 use Prim.Native.Nat.{ℕ, ◌*◌}
 use lib.IntN.{ℤ, pos, neg_ℤ, ◌+ℤ◌, ◌-ℤ◌, ◌*ℤ◌}
@@ -13,8 +14,9 @@ use Rattle.vapour.proofs.DewLaws.{dew_test}
 use Rattle.vapour.specs.Vapour.{water}
 use Rattle.humidity.specs.Humidity.{water_factor, ice_factor, parts, less_by, exact, vapour_pressure, IsMoisture}
 use Rattle.humidity.specs.Parts.{figures_by}
-use Rattle.humidity.specs.declared.Moisture.{Moisture}
-use Rattle.humidity.specs.declared.Moisture.TheVariants.{Given, WetAboveDry, TooWarmForIce, UnknownOutsideRange, AboveSaturation}
+use Rattle.humidity.specs.declared.HumidityFigures.{HumidityFigures}
+use Rattle.humidity.specs.declared.HumidityRefusal.{HumidityRefusal}
+use Rattle.humidity.specs.declared.HumidityRefusal.TheVariants.{WetAboveDry, TooWarmForIce, UnknownOutsideRange, AboveSaturation}
 use Rattle.humidity.proofs.MoistureLaws.{too_warm}
 use Rattle.humidity.proofs.ByTests.{entries_test, by_tests, refused_by_tests}
 
@@ -23,7 +25,7 @@ abbrev pub below : ℕ → ℤ
 below n = neg_ℤ (pos n)
 
 -- what a state and both bulbs come to
-abbrev pub Air : BulbState → ℤ → ℤ → Moisture → Type 0
+abbrev pub Air : BulbState → ℤ → ℤ → Result HumidityFigures HumidityRefusal → Type 0
 Air s dry wet m = IsMoisture s dry wet (pos 10000) (pos 662) m
 
 -- ---- where e is rounded, and by which factor
@@ -56,9 +58,9 @@ unknown_by_the_bulbs = (refl, refl, refl)
 -- "dry = wet = -10.0 over ice: e 2.60, 91 %": relative humidity over water, where over ice it would be 100. And the wet bulb a tenth
 -- above the dry, which with water is refused.
 pub over_ice_lem :
-    Air Ice (below 100) (below 100) (Given (figures_by 260 287 27 91 (below 112)))
-    × Air Ice (below 101) (below 100) (Given (figures_by 266 284 18 94 (below 109)))
-    × Air Water (below 101) (below 100) WetAboveDry
+    Air Ice (below 100) (below 100) (Ok (figures_by 260 287 27 91 (below 112)))
+    × Air Ice (below 101) (below 100) (Ok (figures_by 266 284 18 94 (below 109)))
+    × Air Water (below 101) (below 100) (Err WetAboveDry)
 unfolding answer vapour_pressure nearest rounded near_test dew_test entries_test
 over_ice_lem = (
   by_tests Ice _ _ _ _ 0 260 _ tt tt tt refl refl refl refl,
@@ -70,9 +72,9 @@ over_ice_lem = (
 
 -- 20: a wet bulb of 0.0, and of 0.1.
 pub too_warm_from :
-    Air Ice (pos 0) (pos 0) (Given (figures_by 611 611 0 100 (pos 0)))
-    × Air Ice (pos 0) (pos 1) TooWarmForIce
-    × Air Unknown (pos 0) (pos 1) TooWarmForIce
+    Air Ice (pos 0) (pos 0) (Ok (figures_by 611 611 0 100 (pos 0)))
+    × Air Ice (pos 0) (pos 1) (Err TooWarmForIce)
+    × Air Unknown (pos 0) (pos 1) (Err TooWarmForIce)
 unfolding answer vapour_pressure nearest rounded near_test dew_test entries_test
 too_warm_from = (
   by_tests Ice _ _ _ _ 0 611 _ tt tt tt refl refl refl refl,
@@ -82,10 +84,10 @@ too_warm_from = (
 
 -- 21: a state unknown in air of -9.9 and 0.0, and of -10.0 and 0.1.
 pub in_doubt_from :
-    Air Unknown (below 99) (below 99) (Given (figures_by 262 289 27 91 (below 111)))
-    × Air Unknown (below 100) (below 100) UnknownOutsideRange
-    × Air Unknown (pos 0) (pos 0) (Given (figures_by 611 611 0 100 (pos 0)))
-    × Air Unknown (pos 1) (pos 0) UnknownOutsideRange
+    Air Unknown (below 99) (below 99) (Ok (figures_by 262 289 27 91 (below 111)))
+    × Air Unknown (below 100) (below 100) (Err UnknownOutsideRange)
+    × Air Unknown (pos 0) (pos 0) (Ok (figures_by 611 611 0 100 (pos 0)))
+    × Air Unknown (pos 1) (pos 0) (Err UnknownOutsideRange)
 unfolding answer vapour_pressure nearest rounded near_test dew_test entries_test
 in_doubt_from = (
   by_tests Unknown _ _ _ _ 289 262 _ tt tt tt refl refl refl refl,
@@ -96,8 +98,8 @@ in_doubt_from = (
 
 -- 22: ice at -8.1 in air of -8.4 makes e 3.25, which is saturation; at -8.2 in air of -8.5 it makes 3.23, and saturation is 3.22.
 pub saturated_from :
-    Air Ice (below 84) (below 81) (Given (figures_by 325 325 0 100 (below 84)))
-    × Air Ice (below 85) (below 82) AboveSaturation
+    Air Ice (below 84) (below 81) (Ok (figures_by 325 325 0 100 (below 84)))
+    × Air Ice (below 85) (below 82) (Err AboveSaturation)
 unfolding answer vapour_pressure nearest rounded near_test dew_test entries_test
 saturated_from = (
   by_tests Ice _ _ _ _ 0 307 _ tt tt tt refl refl refl refl,

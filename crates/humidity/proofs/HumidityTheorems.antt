@@ -1,5 +1,6 @@
 -- What holds of every answer: e never exceeds saturation, relative humidity is at most 100, and a watch file takes the figures, by
 -- tests 22 and 15; and with water on the wick 20, 21 and 22 never refuse. Assumes nothing.
+use Rattle.std.specs.Prelude.{Ok}
 use mathlib.Core.Path.{◌≡◌, refl, sym, ap, subst, ◌∙◌}
 use mathlib.Core.Bool.{true, false}
 use Prim.Native.Nat.{ℕ, ◌≤◌}
@@ -17,7 +18,6 @@ use Rattle.vapour.proofs.TableLaws.{entry_range}
 use Rattle.vapour.proofs.RangeLaws.{relative_most}
 use Rattle.humidity.specs.Humidity.{vapour_pressure, wet_above_dry, too_warm_for_ice, unknown_outside, above_saturation, too_dry, within_limits, tests, Follow, IsHumidity, IsMoisture}
 use Rattle.humidity.specs.declared.HumidityFigures.{HumidityFigures}
-use Rattle.humidity.specs.declared.Moisture.TheVariants.{Given}
 use Rattle.humidity.proofs.VapourPressureLaws.{within, one_e}
 
 -- "e 19 to saturation, saturation 19 to 12345, the other three as their rules give"; and relative humidity is at most 100
@@ -73,13 +73,13 @@ module _ (s : BulbState) (dry wet p a : ℤ) where
         follow = is.follow;
       }
 
-  module _ (h : HumidityFigures) (m : IsMoisture s dry wet p a (Given h)) where
+  module _ (h : HumidityFigures) (m : IsMoisture s dry wet p a (Ok h)) where
     through : Passed s dry wet p a m.d (vapour_pressure s m.w m.i a p dry wet) m.figures h
     through = passed m.d (vapour_pressure s m.w m.i a p dry wet) m.figures h (sym m.first)
 
     -- An answer with figures gives those of the bulbs.
     pub figured_then : IsHumidity s dry wet p a h
-    figured_then = subst (IsHumidity s dry wet p a) through.same (m.worked (ap Given (sym through.same)))
+    figured_then = subst (IsHumidity s dry wet p a) through.same (m.worked (ap Ok (sym through.same)))
 
     -- and no test has refused them
     pub passed_with : Passed s dry wet p a h.saturation.0 (pos h.e.0) h h

@@ -11,6 +11,7 @@ use Rattle.quantity.specs.Limits.{inside, bulb, frost}
 use Rattle.vapour.specs.Vapour.{Near, ice, highest_vapour}
 use Rattle.vapour.proofs.SaturationLaws.{near_test, near_by_test, near_rises}
 use Rattle.humidity.specs.Parts.{Frozen}
+use Rattle.humidity.specs.declared.Air.{Air}
 
 -- a wet bulb within its limits and not under ice is above 0.0
 pub warm : (wet : ℤ) → inside bulb wet ≡ true → inside frost wet ≡ false → not (le_z wet frost.high) ≡ true
@@ -20,11 +21,11 @@ warm wet b f = go (le_z wet frost.high) refl
     go true e = never (sym f ∙ both (and_true (le_z bulb.low wet) (le_z wet bulb.high) b).0 e)
     go false e = ap not e
 
-module _ (wet : ℤ) (i : ℕ) (f : Frozen wet i) where
-  under : le_z wet frost.high ≡ true
-  under = (and_true (le_z frost.low wet) (le_z wet frost.high) f.within).1
+module _ (air : Air) (i : ℕ) (f : Frozen air i) where
+  under : le_z air.wet.0.v frost.high ≡ true
+  under = (and_true (le_z frost.low air.wet.0.v) (le_z air.wet.0.v frost.high) f.within).1
 
-  pub cold : not (le_z wet frost.high) ≡ false
+  pub cold : not (le_z air.wet.0.v frost.high) ≡ false
   cold = ap not under
 
   last : Near ice frost.high 611
@@ -33,5 +34,5 @@ module _ (wet : ℤ) (i : ℕ) (f : Frozen wet i) where
 
   pub ice_range : i ≤ highest_vapour
   ice_range =
-      let l = near_rises ice (omega arith, omega arith) wet frost.high i 611 (record { le = subst T (sym under) tt }) f.near last in
+      let l = near_rises ice (omega arith, omega arith) air.wet.0.v frost.high i 611 (record { le = subst T (sym under) tt }) f.near last in
       omega arith

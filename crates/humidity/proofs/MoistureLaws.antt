@@ -1,4 +1,5 @@
 -- What each way through the tests comes to: the list of tests, answered by what is known on that way. Assumes nothing.
+use Rattle.std.specs.Prelude.{Result, Ok, Err}
 use mathlib.Core.Path.{◌≡◌, sym, subst, ◌∙◌}
 use mathlib.Core.Bool.{true, false}
 use Prim.Native.Nat.{ℕ}
@@ -10,8 +11,8 @@ use Rattle.vapour.specs.Vapour.{Near, water}
 use Rattle.humidity.specs.Humidity.{vapour_pressure, EntriesFor, wet_above_dry, too_warm_for_ice, unknown_outside, within_limits, tests, moisture_as, IsMoisture}
 use Rattle.humidity.specs.Parts.{figures_by, IsByVapour}
 use Rattle.humidity.specs.declared.HumidityFigures.{HumidityFigures}
-use Rattle.humidity.specs.declared.Moisture.{Moisture}
-use Rattle.humidity.specs.declared.Moisture.TheVariants.{Given, WetAboveDry, TooWarmForIce, UnknownOutsideRange, OutsideLimits}
+use Rattle.humidity.specs.declared.HumidityRefusal.{HumidityRefusal}
+use Rattle.humidity.specs.declared.HumidityRefusal.TheVariants.{WetAboveDry, TooWarmForIce, UnknownOutsideRange, OutsideLimits}
 
 -- figures that nothing refers to, where there are none
 abbrev pub none : HumidityFigures
@@ -22,7 +23,7 @@ untrue e = impossible (cc)
 
 module _ (s : BulbState) (dry wet p a : ℤ) where
   -- 7
-  pub outside : within_limits dry wet p a ≡ false → IsMoisture s dry wet p a OutsideLimits
+  pub outside : within_limits dry wet p a ≡ false → IsMoisture s dry wet p a (Err OutsideLimits)
   unfolding answer
   outside l =
       record {
@@ -37,8 +38,8 @@ module _ (s : BulbState) (dry wet p a : ℤ) where
       }
 
   -- a refusal, where the bulbs have their entries
-  pub refused_so : (d w i : ℕ) → Near water dry d → EntriesFor s wet w i → (m : Moisture)
-      → moisture_as m ≡ answer (tests s dry wet p a d (vapour_pressure s w i a p dry wet)) none → (m ≡ Given none → ⊥) → IsMoisture s dry wet p a m
+  pub refused_so : (d w i : ℕ) → Near water dry d → EntriesFor s wet w i → (m : Result HumidityFigures HumidityRefusal)
+      → moisture_as m ≡ answer (tests s dry wet p a d (vapour_pressure s w i a p dry wet)) none → (m ≡ Ok none → ⊥) → IsMoisture s dry wet p a m
   refused_so d w i near entries m first other =
       record {
         d = d;
@@ -53,7 +54,7 @@ module _ (s : BulbState) (dry wet p a : ℤ) where
 
   module _ (d : ℕ) (limits : within_limits dry wet p a ≡ true) (near : Near water dry d) where
     -- 20
-    pub too_warm : wet_above_dry s dry wet ≡ false → too_warm_for_ice s wet ≡ true → IsMoisture s dry wet p a TooWarmForIce
+    pub too_warm : wet_above_dry s dry wet ≡ false → too_warm_for_ice s wet ≡ true → IsMoisture s dry wet p a (Err TooWarmForIce)
     unfolding answer
     too_warm x y =
         record {
@@ -69,18 +70,18 @@ module _ (s : BulbState) (dry wet p a : ℤ) where
 
     module _ (w i : ℕ) (entries : EntriesFor s wet w i) where
       -- 13
-      pub above : wet_above_dry s dry wet ≡ true → IsMoisture s dry wet p a WetAboveDry
+      pub above : wet_above_dry s dry wet ≡ true → IsMoisture s dry wet p a (Err WetAboveDry)
       unfolding answer
-      above x = refused_so d w i near entries WetAboveDry (rw (limits, x)) (λ e. impossible (cc))
+      above x = refused_so d w i near entries (Err WetAboveDry) (rw (limits, x)) (λ e. impossible (cc))
 
       module _ (bulbs : wet_above_dry s dry wet ≡ false) (cold : too_warm_for_ice s wet ≡ false) where
         -- 21
-        pub no_doubt : unknown_outside s dry ≡ true → IsMoisture s dry wet p a UnknownOutsideRange
+        pub no_doubt : unknown_outside s dry ≡ true → IsMoisture s dry wet p a (Err UnknownOutsideRange)
         unfolding answer
-        no_doubt x = refused_so d w i near entries UnknownOutsideRange (rw (limits, bulbs, cold, x)) (λ e. impossible (cc))
+        no_doubt x = refused_so d w i near entries (Err UnknownOutsideRange) (rw (limits, bulbs, cold, x)) (λ e. impossible (cc))
 
         -- else e and saturation decide
-        pub by_vapour_lem : unknown_outside s dry ≡ false → (m : Moisture) → IsByVapour (vapour_pressure s w i a p dry wet) d m → IsMoisture s dry wet p a m
+        pub by_vapour_lem : unknown_outside s dry ≡ false → (m : Result HumidityFigures HumidityRefusal) → IsByVapour (vapour_pressure s w i a p dry wet) d m → IsMoisture s dry wet p a m
         unfolding answer
         by_vapour_lem x m is =
             record {

@@ -1,5 +1,6 @@
 -- Humidity refuses with the first of 7, 13, 20, 21, 22 and 15, in this order, whose reason holds, and gives figures where none does:
 -- the one law of refusals at its list. With water on the wick 20, 21 and 22 never refuse. Assumes nothing.
+use Rattle.std.specs.Prelude.{Result}
 use mathlib.Core.Path.{◌≡◌, refl, sym, ◌∙◌}
 use mathlib.Core.Bool.{Bool, true, false, not}
 use mathlib.Core.List.{List, [], ◌∷◌}
@@ -12,10 +13,11 @@ use Rattle.number.proofs.RefusalLaws.{refused_exactly, given_exactly}
 use Rattle.quantity.specs.declared.BulbState.{BulbState}
 use Rattle.quantity.specs.declared.BulbState.TheVariants.{Water}
 use Rattle.humidity.specs.Humidity.{vapour_pressure, too_dry, within_limits, tests, moisture_as, IsMoisture}
-use Rattle.humidity.specs.declared.Moisture.{Moisture}
+use Rattle.humidity.specs.declared.HumidityFigures.{HumidityFigures}
+use Rattle.humidity.specs.declared.HumidityRefusal.{HumidityRefusal}
 use Rattle.humidity.proofs.VapourPressureLaws.{water_under}
 
-module _ (s : BulbState) (dry wet p a : ℤ) (m : Moisture) (is : IsMoisture s dry wet p a m) where
+module _ (s : BulbState) (dry wet p a : ℤ) (m : Result HumidityFigures HumidityRefusal) (is : IsMoisture s dry wet p a m) where
   abbrev ts : List (Test ℕ)
   ts = tests s dry wet p a is.d (vapour_pressure s is.w is.i a p dry wet)
 
@@ -37,7 +39,7 @@ water_tests dry wet p a e =
     ∷ record { refusal = 15; holds = too_dry e }
     ∷ []
 
-pub water_as_before : (dry wet p a : ℤ) (m : Moisture) (is : IsMoisture Water dry wet p a m)
+pub water_as_before : (dry wet p a : ℤ) (m : Result HumidityFigures HumidityRefusal) (is : IsMoisture Water dry wet p a m)
     → moisture_as m ≡ answer (water_tests dry wet p a (vapour_pressure Water is.w is.i a p dry wet)) is.figures
 unfolding answer
 water_as_before dry wet p a m is = is.first ∙ go (within_limits dry wet p a) (not (le_z wet dry)) refl refl

@@ -1,5 +1,6 @@
 -- The public contract of this crate allows a single answer: a bulb has one entry, so the tests are the same, and a refusal
 -- depends on nothing else; figures follow from the entries, and a pressure has one dew point. Assumes nothing.
+use Rattle.std.specs.Prelude.{Result, Ok, Err}
 use mathlib.Core.Path.{◌≡◌, refl, sym, ap, subst, ◌∙◌}
 use mathlib.Core.Bool.{Bool, true, false, cond}
 use Prim.Native.Nat.{ℕ}
@@ -17,8 +18,8 @@ use Rattle.vapour.proofs.DewLaws.{dew_one}
 use Rattle.vapour.proofs.SingleAnswers.{pressure_by, dew_by}
 use Rattle.humidity.specs.Humidity.{vapour_pressure, too_warm_for_ice, within_limits, tests, moisture_as, IsHumidity, IsMoisture}
 use Rattle.humidity.specs.declared.HumidityFigures.{HumidityFigures}
-use Rattle.humidity.specs.declared.Moisture.{Moisture}
-use Rattle.humidity.specs.declared.Moisture.TheVariants.{Given, WetAboveDry, TooWarmForIce, UnknownOutsideRange, AboveSaturation, TooDry, OutsideLimits}
+use Rattle.humidity.specs.declared.HumidityRefusal.{HumidityRefusal}
+use Rattle.humidity.specs.declared.HumidityRefusal.TheVariants.{WetAboveDry, TooWarmForIce, UnknownOutsideRange, AboveSaturation, TooDry, OutsideLimits}
 use Rattle.humidity.proofs.VapourPressureLaws.{one_e}
 use Rattle.humidity.proofs.HumidityTheorems.{figured_then}
 use Rattle.humidity.proofs.humidity.Reads as humidity
@@ -49,34 +50,34 @@ one_humidity state dry wet p a h k x y =
 
 -- ---- refusals
 
-pub case_of : Answer ℕ HumidityFigures → Moisture
+pub case_of : Answer ℕ HumidityFigures → Result HumidityFigures HumidityRefusal
 case_of (refused n) =
-    cond (eqb n 7) OutsideLimits
-    (cond (eqb n 13) WetAboveDry
-    (cond (eqb n 20) TooWarmForIce
-    (cond (eqb n 21) UnknownOutsideRange
-    (cond (eqb n 22) AboveSaturation
-    TooDry))))
-case_of (given h) = Given h
+    cond (eqb n 7) (Err OutsideLimits)
+    (cond (eqb n 13) (Err WetAboveDry)
+    (cond (eqb n 20) (Err TooWarmForIce)
+    (cond (eqb n 21) (Err UnknownOutsideRange)
+    (cond (eqb n 22) (Err AboveSaturation)
+    (Err TooDry)))))
+case_of (given h) = Ok h
 
-pub case_back : (m : Moisture) → case_of (moisture_as m) ≡ m
+pub case_back : (m : Result HumidityFigures HumidityRefusal) → case_of (moisture_as m) ≡ m
 unfolding case_of
-case_back (Given h) = refl
-case_back WetAboveDry = refl
-case_back TooWarmForIce = refl
-case_back UnknownOutsideRange = refl
-case_back AboveSaturation = refl
-case_back TooDry = refl
-case_back OutsideLimits = refl
+case_back (Ok h) = refl
+case_back (Err WetAboveDry) = refl
+case_back (Err TooWarmForIce) = refl
+case_back (Err UnknownOutsideRange) = refl
+case_back (Err AboveSaturation) = refl
+case_back (Err TooDry) = refl
+case_back (Err OutsideLimits) = refl
 
 -- an answer that tells figures is given with them
-pub is_given_lem : (m : Moisture) (h : HumidityFigures) → moisture_as m ≡ given h → m ≡ Given h
+pub is_given_lem : (m : Result HumidityFigures HumidityRefusal) (h : HumidityFigures) → moisture_as m ≡ given h → m ≡ Ok h
 unfolding case_of
 is_given_lem m h e = sym (case_back m) ∙ ap case_of e
 
 module _ (s : BulbState) (dry wet p a : ℤ) where
   -- what one answer is refused with, so is the other
-  refused_alike : (m k : Moisture) → IsMoisture s dry wet p a m → IsMoisture s dry wet p a k → (n : ℕ) → moisture_as m ≡ refused n → moisture_as k ≡ refused n
+  refused_alike : (m k : Result HumidityFigures HumidityRefusal) → IsMoisture s dry wet p a m → IsMoisture s dry wet p a k → (n : ℕ) → moisture_as m ≡ refused n → moisture_as k ≡ refused n
   unfolding answer
   refused_alike m k x y n e = go (within_limits dry wet p a) (too_warm_for_ice s wet) refl refl
     where
@@ -91,7 +92,7 @@ module _ (s : BulbState) (dry wet p a : ℤ) where
       go true true l t = rw (l, t) at y.first ∙ sym (rw (l, t) at x.first) ∙ e
       go false c l t = rw l at y.first ∙ sym (rw l at x.first) ∙ e
 
-  pub one_moisture : (m k : Moisture) → IsMoisture s dry wet p a m → IsMoisture s dry wet p a k → m ≡ k
+  pub one_moisture : (m k : Result HumidityFigures HumidityRefusal) → IsMoisture s dry wet p a m → IsMoisture s dry wet p a k → m ≡ k
   unfolding case_of
   one_moisture m k x y = go (moisture_as m) (moisture_as k) refl refl
     where
@@ -103,7 +104,7 @@ module _ (s : BulbState) (dry wet p a : ℤ) where
           let gk = is_given_lem k i f in
           let a1 = figured_then s dry wet p a h (subst (IsMoisture s dry wet p a) gm x) in
           let a2 = figured_then s dry wet p a i (subst (IsMoisture s dry wet p a) gk y) in
-          gm ∙ ap Given (one_humidity s dry wet p a h i a1 a2) ∙ sym gk
+          gm ∙ ap Ok (one_humidity s dry wet p a h i a1 a2) ∙ sym gk
 
 pub single_humidity : Single humidity.Post
 single_humidity κs x r r' s s' p q = one_moisture _ _ _ _ _ r r' p q

@@ -21,7 +21,8 @@ use Rattle.vapour.specs.Vapour.{Near, lowest_vapour, water, ice}
 use Rattle.vapour.proofs.UpDown.{up, down, le_then, then_le, of_minus, of_sum, of_times, from_zero}
 use Rattle.vapour.proofs.SaturationLaws.{table_rises, near_one}
 use Rattle.humidity.specs.Humidity.{water_factor, ice_factor, parts, less_by, exact, vapour_pressure, EntriesFor, wet_above_dry, above_saturation, within_limits}
-use Rattle.humidity.specs.Parts.{Sized}
+use Rattle.humidity.specs.Parts.{in_limits, Sized}
+use Rattle.humidity.specs.declared.Air.{Air}
 
 -- a test that passed, as an order
 ordered : (s t : ℤ) → le_z s t ≡ true → s ≤ℤ t
@@ -42,11 +43,17 @@ within dry wet p a e =
     let z = and_true (inside recorded_pressure p) (inside psychrometer a) x.1 in
     record { in_dry = y.0; in_wet = y.1; in_p = z.0; in_a = z.1 }
 
-pub sized : (dry wet p a : ℤ) → Within dry wet p a → Sized dry wet p a
-sized dry wet p a w =
+bulb_size : (t : ℤ) → inside bulb t ≡ true → nat_abs t ≤ nat_abs bulb.high
+bulb_size t h = within_size bulb.low bulb.high t (nat_abs bulb.high) (omega arith) (omega arith) h
+
+pub sized : (air : Air) → in_limits air ≡ true → Sized air
+sized air l =
+    let p = air.pressure.0.v in
+    let a = air.a.0.v in
+    let w = within air.dry.0.v air.wet.0.v p a l in
     record {
-      size_dry = within_size bulb.low bulb.high dry (nat_abs bulb.high) (omega arith) (omega arith) w.in_dry;
-      size_wet = within_size bulb.low bulb.high wet (nat_abs bulb.high) (omega arith) (omega arith) w.in_wet;
+      size_dry = bulb_size air.dry.0.v w.in_dry;
+      size_wet = bulb_size air.wet.0.v w.in_wet;
       size_p = within_size recorded_pressure.low recorded_pressure.high p (nat_abs recorded_pressure.high) (omega arith) (omega arith) w.in_p;
       size_a = within_size psychrometer.low psychrometer.high a (nat_abs psychrometer.high) (omega arith) (omega arith) w.in_a;
     }
@@ -74,7 +81,7 @@ not_below dry wet p a w e = (
     sym (natural (nat_abs psychrometer.low) psychrometer.high a w.in_a),
     sym (natural (nat_abs recorded_pressure.low) recorded_pressure.high p w.in_p),
     difference dry wet e,
-    growth wet (sized dry wet p a w).size_wet,
+    growth wet (bulb_size wet w.in_wet),
   ),
 )
 

@@ -1,6 +1,6 @@
 -- Humidity (document 01, "Humidity"; document 02, W3), and refusals 7, 13, 20, 21, 22 and 15. Temperatures are in tenths of °C, the
 -- station pressure in tenths of hPa, pressures of vapour in hundredths of hPa, the psychrometer coefficient A in millionths.
-use Rattle.std.specs.Prelude.{◌≡◌, Bool, true, false, not, ◌&&◌, cond, List, [], ◌∷◌, ℕ, ◌*◌, ℤ, pos, ◌+ℤ◌, ◌-ℤ◌, ◌*ℤ◌}
+use Rattle.std.specs.Prelude.{◌≡◌, Bool, true, false, not, ◌&&◌, cond, List, [], ◌∷◌, ℕ, ◌*◌, ℤ, pos, ◌+ℤ◌, ◌-ℤ◌, ◌*ℤ◌, Result, Ok, Err}
 use Rattle.std.specs.Int.Signed.{le_z}
 use Rattle.number.specs.Round.{rounded}
 use Rattle.number.specs.Refusal.{Test, Answer, refused, given, answer}
@@ -10,8 +10,8 @@ use Rattle.quantity.specs.declared.BulbState.TheVariants.{Water, Ice, Unknown}
 use Rattle.settings.specs.Settings.{psychrometer}
 use Rattle.vapour.specs.Vapour.{Near, DewPoint, lowest_vapour, relative_humidity, vapour_deficit, water, ice}
 use Rattle.humidity.specs.declared.HumidityFigures.{HumidityFigures}
-use Rattle.humidity.specs.declared.Moisture.{Moisture}
-use Rattle.humidity.specs.declared.Moisture.TheVariants.{Given, WetAboveDry, TooWarmForIce, UnknownOutsideRange, AboveSaturation, TooDry, OutsideLimits}
+use Rattle.humidity.specs.declared.HumidityRefusal.{HumidityRefusal}
+use Rattle.humidity.specs.declared.HumidityRefusal.TheVariants.{WetAboveDry, TooWarmForIce, UnknownOutsideRange, AboveSaturation, TooDry, OutsideLimits}
 
 -- ---- vapour pressure
 
@@ -119,19 +119,19 @@ pub record IsHumidity (s : BulbState) (dry wet p a : ℤ) (h : HumidityFigures) 
   pub follow : Follow h
 
 -- Document 01's number of each case, and its values.
-abbrev pub moisture_as : Moisture → Answer ℕ HumidityFigures
-moisture_as (Given h) = given h
-moisture_as WetAboveDry = refused 13
-moisture_as TooWarmForIce = refused 20
-moisture_as UnknownOutsideRange = refused 21
-moisture_as AboveSaturation = refused 22
-moisture_as TooDry = refused 15
-moisture_as OutsideLimits = refused 7
+abbrev pub moisture_as : Result HumidityFigures HumidityRefusal → Answer ℕ HumidityFigures
+moisture_as (Ok h) = given h
+moisture_as (Err WetAboveDry) = refused 13
+moisture_as (Err TooWarmForIce) = refused 20
+moisture_as (Err UnknownOutsideRange) = refused 21
+moisture_as (Err AboveSaturation) = refused 22
+moisture_as (Err TooDry) = refused 15
+moisture_as (Err OutsideLimits) = refused 7
 
 -- What the wet bulb's state, both bulbs, the station pressure and A come to: the first refusal of the tests, or the figures. The dry
 -- bulb has an entry, d, wherever test 7 lets it pass, and the wet bulb those that its state asks for wherever test 20 does too; e is
 -- worked from them. Where a test refuses there are no figures, and `figures` is free.
-pub record IsMoisture (s : BulbState) (dry wet p a : ℤ) (m : Moisture) : Type 0 where
+pub record IsMoisture (s : BulbState) (dry wet p a : ℤ) (m : Result HumidityFigures HumidityRefusal) : Type 0 where
   pub d : ℕ
   pub w : ℕ
   pub i : ℕ
@@ -139,4 +139,4 @@ pub record IsMoisture (s : BulbState) (dry wet p a : ℤ) (m : Moisture) : Type 
   pub entries : within_limits dry wet p a ≡ true → too_warm_for_ice s wet ≡ false → EntriesFor s wet w i
   pub figures : HumidityFigures
   pub first : moisture_as m ≡ answer (tests s dry wet p a d (vapour_pressure s w i a p dry wet)) figures
-  pub worked : m ≡ Given figures → IsHumidity s dry wet p a figures
+  pub worked : m ≡ Ok figures → IsHumidity s dry wet p a figures

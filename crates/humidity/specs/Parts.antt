@@ -1,35 +1,37 @@
 -- What the parts of the work ask of each other.
-use Rattle.std.specs.Prelude.{◌≡◌, true, ℕ, ◌≤◌, ℤ, pos, nat_abs}
+use Rattle.std.specs.Prelude.{◌≡◌, Bool, true, ℕ, ◌≤◌, ℤ, pos, nat_abs, Result, Ok, Err}
 use Rattle.number.specs.Refusal.{answer}
 use Rattle.quantity.specs.Limits.{inside, bulb, frost, recorded_pressure}
 use Rattle.quantity.specs.declared.BulbState.{BulbState}
 use Rattle.settings.specs.Settings.{psychrometer}
 use Rattle.vapour.specs.Vapour.{Near, water, ice}
 use Rattle.humidity.specs.Humidity.{within_limits, by_vapour, moisture_as, Follow, IsMoisture}
+use Rattle.humidity.specs.declared.Air.{Air}
 use Rattle.humidity.specs.declared.HumidityFigures.{HumidityFigures}
-use Rattle.humidity.specs.declared.Moisture.{Moisture}
-use Rattle.humidity.specs.declared.Moisture.TheVariants as moisture
-use Rattle.humidity.specs.declared.Moisture.TheVariants.{Given}
-use Rattle.humidity.specs.declared.Vapour.{Vapour}
-use Rattle.humidity.specs.declared.Vapour.TheVariants as vapour
-use Rattle.humidity.specs.declared.Vapour.TheVariants.{Worked}
+use Rattle.humidity.specs.declared.HumidityRefusal.{HumidityRefusal}
+use Rattle.number.specs.declared.Number.{Number}
+
+-- refusal 7 does not hold
+abbrev pub in_limits : Air → Bool
+in_limits air = within_limits air.dry.0.v air.wet.0.v air.pressure.0.v air.a.0.v
 
 -- refusal 7 does not hold, and the wet bulb has this entry over water
-pub record Tabled (dry wet p a : ℤ) (w : ℕ) : Type 0 where
-  pub limits : within_limits dry wet p a ≡ true
-  pub near_wet : Near water wet w
+pub record Tabled (air : Air) (w : ℕ) : Type 0 where
+  pub limits : in_limits air ≡ true
+  pub near_wet : Near water air.wet.0.v w
 
--- the wet bulb has this entry over ice
-pub record Frozen (wet : ℤ) (i : ℕ) : Type 0 where
-  pub within : inside frost wet ≡ true
-  pub near : Near ice wet i
+-- refusal 7 does not hold, and the wet bulb has this entry over ice
+pub record Frozen (air : Air) (i : ℕ) : Type 0 where
+  pub limits : in_limits air ≡ true
+  pub within : inside frost air.wet.0.v ≡ true
+  pub near : Near ice air.wet.0.v i
 
 -- no figure is larger than its limits allow
-pub record Sized (dry wet p a : ℤ) : Type 0 where
-  pub size_dry : nat_abs dry ≤ nat_abs bulb.high
-  pub size_wet : nat_abs wet ≤ nat_abs bulb.high
-  pub size_p : nat_abs p ≤ nat_abs recorded_pressure.high
-  pub size_a : nat_abs a ≤ nat_abs psychrometer.high
+pub record Sized (air : Air) : Type 0 where
+  pub size_dry : nat_abs air.dry.0.v ≤ nat_abs bulb.high
+  pub size_wet : nat_abs air.wet.0.v ≤ nat_abs bulb.high
+  pub size_p : nat_abs air.pressure.0.v ≤ nat_abs recorded_pressure.high
+  pub size_a : nat_abs air.a.0.v ≤ nat_abs psychrometer.high
 
 -- no factor is larger than that over water at 50.0 °C
 abbrev pub largest_factor : ℕ
@@ -57,17 +59,19 @@ pub record FiguresOf (e : ℤ) (s : ℕ) (h : HumidityFigures) : Type 0 where
   pub follow : Follow h
 
 -- what e and saturation come to: 22, 15, or the figures
-pub record IsByVapour (e : ℤ) (saturation : ℕ) (m : Moisture) : Type 0 where
+pub record IsByVapour (e : ℤ) (saturation : ℕ) (m : Result HumidityFigures HumidityRefusal) : Type 0 where
   pub figures : HumidityFigures
   pub first : moisture_as m ≡ answer (by_vapour saturation e) figures
-  pub worked : m ≡ Given figures → FiguresOf e saturation figures
+  pub worked : m ≡ Ok figures → FiguresOf e saturation figures
+
+-- what both bulbs, the station pressure and A come to
+abbrev pub Comes : BulbState → Air → Result HumidityFigures HumidityRefusal → Type 0
+Comes s air m = IsMoisture s air.dry.0.v air.wet.0.v air.pressure.0.v air.a.0.v m
 
 -- what the wet bulb comes to decides all, with the dry bulb's entry d: its refusal is the answer, or e and d give it
-abbrev pub Decided : BulbState → ℤ → ℤ → ℤ → ℤ → ℕ → Vapour → Type 0
-Decided s dry wet p a d (Worked e) = (m : Moisture) → IsByVapour e.v d m → IsMoisture s dry wet p a m
-Decided s dry wet p a d vapour.WetAboveDry = IsMoisture s dry wet p a moisture.WetAboveDry
-Decided s dry wet p a d vapour.TooWarmForIce = IsMoisture s dry wet p a moisture.TooWarmForIce
-Decided s dry wet p a d vapour.UnknownOutsideRange = IsMoisture s dry wet p a moisture.UnknownOutsideRange
+abbrev pub Decided : BulbState → Air → ℕ → Result Number HumidityRefusal → Type 0
+Decided s air d (Ok e) = (m : Result HumidityFigures HumidityRefusal) → IsByVapour e.v d m → Comes s air m
+Decided s air d (Err r) = Comes s air (Err r)
 
-abbrev pub Decides : BulbState → ℤ → ℤ → ℤ → ℤ → Vapour → Type 0
-Decides s dry wet p a v = (d : ℕ) → Near water dry d → Decided s dry wet p a d v
+abbrev pub Decides : BulbState → Air → Result Number HumidityRefusal → Type 0
+Decides s air v = (d : ℕ) → Near water air.dry.0.v d → Decided s air d v

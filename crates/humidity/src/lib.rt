@@ -8,13 +8,13 @@ ghost use Rattle.quantity.specs.Limits.{inside, bulb, recorded_pressure};
 ghost use Rattle.quantity.specs.declared.BulbState.TheVariants.{Water, Ice, Unknown};
 ghost use Rattle.settings.specs.Settings.{psychrometer};
 ghost use Rattle.vapour.specs.Vapour.{DewPoint, lowest_vapour, highest_vapour, recorded_vapour};
-ghost use Rattle.humidity.specs.Humidity.{water_factor, exact, within_limits, IsMoisture};
+ghost use Rattle.humidity.specs.Humidity.{water_factor, exact, IsMoisture};
 ghost use Rattle.humidity.specs.Parts.{Tabled, Frozen, Sized, largest_factor, largest_exact, FiguresOf, IsByVapour, Decides};
 
 use number::{Kept, Number};
 use quantity::{BulbState, BulbTemperature, Hectopascals};
 use settings::PsychrometerCoefficient;
-use vapour::{Dew, DewTemperature, OverIce, Saturations, VapourPressure};
+use vapour::{DewTemperature, VapourPressure};
 
 // The figures of the air at both bulbs. Relative humidity is in %.
 #[derive(Clone, Copy)]
@@ -26,10 +26,9 @@ pub struct HumidityFigures {
     pub dew: DewTemperature,
 }
 
-// What both bulbs come to.
+// Why there are no figures.
 #[derive(Clone, Copy)]
-pub enum Moisture {
-    Given(HumidityFigures),
+pub enum HumidityRefusal {
     // 13
     WetAboveDry,
     // 20
@@ -44,26 +43,20 @@ pub enum Moisture {
     OutsideLimits,
 }
 
-// What the wet bulb comes to: e, rounded, or why there is none.
+// What is measured: both bulbs, the station pressure and A.
 #[derive(Clone, Copy)]
-enum Vapour {
-    Worked(Number),
-    // 13
-    WetAboveDry,
-    // 20
-    TooWarmForIce,
-    // 21
-    UnknownOutsideRange,
+struct Air {
+    dry: BulbTemperature,
+    wet: BulbTemperature,
+    pressure: Hectopascals,
+    a: PsychrometerCoefficient,
 }
 
 // Whether the station pressure and A lie within their limits.
-fn others_hold(pressure: Number, a: Number) -> bool
-    ensures { result ≡ (inside recorded_pressure pressure.v && inside psychrometer a.v) }
+fn others_hold(air: Air) -> bool
+    ensures { result ≡ (inside recorded_pressure air.pressure.0.v && inside psychrometer air.a.0.v) }
 {
-    if Hectopascals::recorded(pressure) {
-        return PsychrometerCoefficient::holds(a);
-    }
-    false
+    Hectopascals::recorded(air.pressure.0) && PsychrometerCoefficient::holds(air.a.0.number())
 }
 
 // ---- vapour pressure
@@ -75,28 +68,28 @@ const PARTS: u64 = 1000000000000;
 const ICE_FACTOR: Number = Number { v: 882200 };
 
 // The factor over water, in millionths: 1 + 0.00115 wet.
-fn water_factor(wet: Number) -> Number
-    requires { nat_abs wet.v ≤ nat_abs bulb.high }
-    ensures { Is result.v (water_factor wet.v) largest_factor }
+fn water_factor(wet: BulbTemperature) -> Number
+    requires { nat_abs wet.0.v ≤ nat_abs bulb.high }
+    ensures { Is result.v (water_factor wet.0.v) largest_factor }
 {
     let one = Number { v: 1000000 };
     let step = Number { v: 115 };
-    one.plus(step.times(wet))
+    one.plus(step.times(wet.0.number()))
 }
 
 // e before it is rounded: a table's entry of the wet bulb less A × pressure × (dry - wet) × factor, exactly.
-fn exact(
-    table: u32,
-    factor: Number,
-    a: Number,
-    pressure: Number,
-    dry: Number,
-    wet: Number,
-) -> Number
-    requires { (table ≤ highest_vapour) × (nat_abs factor.v ≤ largest_factor) × Sized dry.v wet.v pressure.v a.v }
-    ensures { Is result.v (exact table factor.v a.v pressure.v dry.v wet.v) largest_exact }
+fn exact(table: u32, factor: Number, air: Air) -> Number
+    requires { (table ≤ highest_vapour) × (nat_abs factor.v ≤ largest_factor) × Sized air }
+    ensures { Is result.v (exact table factor.v air.a.0.v air.pressure.0.v air.dry.0.v air.wet.0.v) largest_exact }
 {
-    let less = a.times(pressure).times(dry.minus(wet)).times(factor);
+    let difference = air.dry.0.number().minus(air.wet.0.number());
+    let less = air
+        .a
+        .0
+        .number()
+        .times(air.pressure.0)
+        .times(difference)
+        .times(factor);
     Number::whole(table)
         .times(Number::signed(false, PARTS))
         .minus(less)
@@ -109,10 +102,7 @@ fn dew(e: VapourPressure) -> DewTemperature
     requires { recorded_vapour e.0 ≡ true }
     ensures { DewPoint e.0 result.0.v }
 {
-    match vapour::dew_point(e) {
-        Dew::Point(t) => t,
-        Dew::OutsideRange => DewTemperature(Kept { v: 0 }),
-    }
+    vapour::dew_point(e).unwrap_or(DewTemperature(Kept { v: 0 }))
 }
 
 // The figures of e and saturation.
@@ -131,79 +121,68 @@ fn figures(e: VapourPressure, saturation: VapourPressure) -> HumidityFigures
 }
 
 // What e and saturation at the dry bulb come to: 22, 15, or the figures.
-fn by_vapour(e: Number, saturation: u32) -> Moisture
+fn by_vapour(e: Number, saturation: u32) -> Result<HumidityFigures, HumidityRefusal>
     requires { saturation ≤ highest_vapour }
     ensures { IsByVapour e.v saturation result }
 {
-    if !e.at_most(Number::whole(saturation)) {
-        return Moisture::AboveSaturation;
+    if e > Number::whole(saturation) {
+        return Err(HumidityRefusal::AboveSaturation);
     }
-    let least = Number::whole(VapourPressure::LOW);
-    if !least.at_most(e) {
-        return Moisture::TooDry;
+    if e < Number::whole(VapourPressure::LOW) {
+        return Err(HumidityRefusal::TooDry);
     }
-    Moisture::Given(figures(VapourPressure(e.size() as u32), VapourPressure(saturation)))
+    Ok(figures(VapourPressure(e.size() as u32), VapourPressure(saturation)))
 }
 
 // ---- e by the state, where refusal 7 does not hold: w is the wet bulb's entry over water, i that over ice
 
-fn on_water(dry: Number, wet: Number, pressure: Number, a: Number, w: u32) -> Vapour
-    requires { Tabled dry.v wet.v pressure.v a.v w }
-    ensures { Decides Water dry.v wet.v pressure.v a.v result }
+fn on_water(air: Air, w: u32) -> Result<Number, HumidityRefusal>
+    requires { Tabled air w }
+    ensures { Decides Water air result }
 {
-    if !wet.at_most(dry) {
-        return Vapour::WetAboveDry;
+    if air.wet.0 > air.dry.0 {
+        return Err(HumidityRefusal::WetAboveDry);
     }
-    let over_water = exact(w, water_factor(wet), a, pressure, dry, wet);
-    Vapour::Worked(over_water.over(PARTS))
+    let over_water = exact(w, water_factor(air.wet), air);
+    Ok(over_water.over(PARTS))
 }
 
-fn on_ice(dry: Number, wet: Number, pressure: Number, a: Number, i: u32) -> Vapour
-    requires { (within_limits dry.v wet.v pressure.v a.v ≡ true) × Frozen wet.v i }
-    ensures { Decides Ice dry.v wet.v pressure.v a.v result }
+fn on_ice(air: Air, i: u32) -> Result<Number, HumidityRefusal>
+    requires { Frozen air i }
+    ensures { Decides Ice air result }
 {
-    let over_ice = exact(i, ICE_FACTOR, a, pressure, dry, wet);
-    Vapour::Worked(over_ice.over(PARTS))
+    let over_ice = exact(i, ICE_FACTOR, air);
+    Ok(over_ice.over(PARTS))
 }
 
-fn in_doubt(dry: Number, wet: Number, pressure: Number, a: Number, w: u32, i: u32) -> Vapour
-    requires { Tabled dry.v wet.v pressure.v a.v w × Frozen wet.v i }
-    ensures { Decides Unknown dry.v wet.v pressure.v a.v result }
+fn in_doubt(air: Air, w: u32, i: u32) -> Result<Number, HumidityRefusal>
+    requires { Tabled air w × Frozen air i }
+    ensures { Decides Unknown air result }
 {
-    if !BulbTemperature::leaves_doubt(dry) {
-        return Vapour::UnknownOutsideRange;
+    if !BulbTemperature::leaves_doubt(air.dry.0.number()) {
+        return Err(HumidityRefusal::UnknownOutsideRange);
     }
-    let over_ice = exact(i, ICE_FACTOR, a, pressure, dry, wet);
-    if dry.at_most(wet) {
-        return Vapour::Worked(over_ice.over(PARTS));
+    let over_ice = exact(i, ICE_FACTOR, air);
+    if air.dry.0 <= air.wet.0 {
+        return Ok(over_ice.over(PARTS));
     }
-    let over_water = exact(w, water_factor(wet), a, pressure, dry, wet);
-    Vapour::Worked(over_water.plus(over_ice).over(2 * PARTS))
+    let over_water = exact(w, water_factor(air.wet), air);
+    Ok(over_water.plus(over_ice).over(2 * PARTS))
 }
 
-fn by_state(
-    state: BulbState,
-    dry: BulbTemperature,
-    wet: BulbTemperature,
-    pressure: Hectopascals,
-    a: PsychrometerCoefficient,
-    w: u32,
-) -> Vapour
-    requires { Tabled dry.0.v wet.0.v pressure.0.v a.0.v w }
-    ensures { Decides state dry.0.v wet.0.v pressure.0.v a.0.v result }
+fn by_state(state: BulbState, air: Air, w: u32) -> Result<Number, HumidityRefusal>
+    requires { Tabled air w }
+    ensures { Decides state air result }
 {
-    let t = dry.0.number();
-    let u = wet.0.number();
-    let k = a.0.number();
     match state {
-        BulbState::Water => on_water(t, u, pressure.0, k, w),
-        BulbState::Ice => match vapour::saturation_over_ice(wet) {
-            OverIce::Entry(i) => on_ice(t, u, pressure.0, k, i.0),
-            OverIce::OutsideIceTable => Vapour::TooWarmForIce,
+        BulbState::Water => on_water(air, w),
+        BulbState::Ice => match vapour::saturation_over_ice(air.wet) {
+            Some(i) => on_ice(air, i.0),
+            None => Err(HumidityRefusal::TooWarmForIce),
         },
-        BulbState::Unknown => match vapour::saturation_over_ice(wet) {
-            OverIce::Entry(i) => in_doubt(t, u, pressure.0, k, w, i.0),
-            OverIce::OutsideIceTable => Vapour::TooWarmForIce,
+        BulbState::Unknown => match vapour::saturation_over_ice(air.wet) {
+            Some(i) => in_doubt(air, w, i.0),
+            None => Err(HumidityRefusal::TooWarmForIce),
         },
     }
 }
@@ -216,19 +195,21 @@ pub fn humidity(
     wet: BulbTemperature,
     pressure: Hectopascals,
     a: PsychrometerCoefficient,
-) -> Moisture
+) -> Result<HumidityFigures, HumidityRefusal>
     ensures { IsMoisture state dry.0.v wet.0.v pressure.0.v a.0.v result }
 {
-    let Saturations::Entries(d, w) = vapour::saturation(dry, wet) else {
-        return Moisture::OutsideLimits;
+    let Some(entries) = vapour::saturation(dry, wet) else {
+        return Err(HumidityRefusal::OutsideLimits);
     };
-    if !others_hold(pressure.0, a.0.number()) {
-        return Moisture::OutsideLimits;
+    let air = Air {
+        dry,
+        wet,
+        pressure,
+        a,
+    };
+    if !others_hold(air) {
+        return Err(HumidityRefusal::OutsideLimits);
     }
-    match by_state(state, dry, wet, pressure, a, w.0) {
-        Vapour::Worked(e) => by_vapour(e, d.0),
-        Vapour::WetAboveDry => Moisture::WetAboveDry,
-        Vapour::TooWarmForIce => Moisture::TooWarmForIce,
-        Vapour::UnknownOutsideRange => Moisture::UnknownOutsideRange,
-    }
+    let e = by_state(state, air, entries.wet.0)?;
+    by_vapour(e, entries.dry.0)
 }

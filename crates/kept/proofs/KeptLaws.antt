@@ -18,39 +18,12 @@ use Rattle.message.specs.declared.Reading.{Reading}
 use Rattle.message.specs.declared.Reading.TheVariants as reading
 use Rattle.cell.specs.Cells.{CHANNELS, unbiased, first_in, recalled, is_present, first}
 use Rattle.cell.proofs.CellLaws.{unbiased_small}
-use Rattle.block.specs.Layout.{NO_STORE}
 use Rattle.block.specs.Words.{is_store, unit_of}
 use Rattle.store.specs.Block.{next_in, recall_of}
 use Rattle.store.proofs.RecallLaws.{kept}
 use Rattle.kept.specs.Kept.{value_of, newest_of, reading_of, marks, stretch_of}
 
 -- ---- the answers
-
-module _ (s : List ℕ) (c : ℕ) (off : is_store s ≡ false) where
-  pub newest_unopened : newest_of s c ≡ refused (numbered NO_STORE [])
-  unfolding newest_of answer
-  newest_unopened = rw off
-
-  pub reading_unopened : (m : ℕ) → reading_of s c m ≡ refused (numbered NO_STORE [])
-  unfolding reading_of answer
-  reading_unopened m = rw off
-
-  pub stretch_unopened : (m n : ℕ) → stretch_of s c m n ≡ refused (numbered NO_STORE [])
-  unfolding stretch_of answer
-  stretch_unopened m n = rw off
-
-module _ (s : List ℕ) (c : ℕ) (on : is_store s ≡ true) where
-  pub newest_nowhere : CHANNELS ≤ c → newest_of s c ≡ refused (numbered 2 [])
-  unfolding newest_of answer
-  newest_nowhere h = rw (on, le-ltb c CHANNELS h)
-
-  pub reading_nowhere : (m : ℕ) → CHANNELS ≤ c → reading_of s c m ≡ refused (numbered 2 [])
-  unfolding reading_of answer
-  reading_nowhere m h = rw (on, le-ltb c CHANNELS h)
-
-  pub stretch_nowhere : (m n : ℕ) → CHANNELS ≤ c → stretch_of s c m n ≡ refused (numbered 2 [])
-  unfolding stretch_of answer
-  stretch_nowhere m n h = rw (on, le-ltb c CHANNELS h)
 
 module _ (s : List ℕ) (c : ℕ) (on : is_store s ≡ true) (low : c < CHANNELS) where
   pub newest_none : next_in s c ≡ 0 → newest_of s c ≡ refused (numbered 11 [])

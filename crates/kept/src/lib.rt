@@ -9,7 +9,6 @@ ghost use Rattle.told.specs.Told.{none};
 ghost use Rattle.kept.specs.Kept.{newest_in, newest_of, value_of, refused_with, figures_in, reading_in, reading_of, marked, Marks};
 
 use block::{NO_STORE, Store};
-use cell::Recalled;
 use message::Reading;
 use number::{Kept, Number};
 use quantity::Minute;
@@ -36,6 +35,7 @@ pub struct ReadingTold {
 }
 
 // The newest minute of a channel; refusals 2, and 11 where nothing is heard of it yet.
+#[tactic(auto, unfolding(crate::specs::Kept::newest_of, number::specs::Refusal::answer))]
 pub fn newest(store: &Store, channel: u32) -> NewestTold
     ensures { (result ≡ newest_in (newest_of store.now channel)) × (store.exit.now ≡ store.entry.now) }
 {
@@ -124,6 +124,7 @@ fn figures_of(r: Reading) -> ReadingTold
 }
 
 // What is kept of a channel's minute; refusals 2, 5 and 11.
+#[tactic(auto, unfolding(crate::specs::Kept::reading_of, number::specs::Refusal::answer))]
 pub fn reading(store: &Store, channel: u32, minute: u32) -> ReadingTold
     ensures { (result ≡ reading_in (reading_of store.now channel minute)) × (store.exit.now ≡ store.entry.now) }
 {
@@ -137,8 +138,8 @@ pub fn reading(store: &Store, channel: u32, minute: u32) -> ReadingTold
         return refused(5, 0, 0);
     }
     match store::recall(store, channel, minute) {
-        Recalled::Missing => refused(11, channel, minute),
-        Recalled::Kept(r) => figures_of(r),
+        None => refused(11, channel, minute),
+        Some(r) => figures_of(r),
     }
 }
 
@@ -150,12 +151,13 @@ fn mark(store: &Store, channel: u32, minute: u64) -> u8
         return 0;
     }
     match store::recall(store, channel, minute as u32) {
-        Recalled::Missing => 0,
-        Recalled::Kept(_) => 1,
+        None => 0,
+        Some(_) => 1,
     }
 }
 
 // Says of as many minutes as bytes are lent, from the first on, which have a reading: 1, else 0. Or refusal 2, and every byte stays.
+#[tactic(auto, unfolding(crate::specs::Kept::stretch_of, number::specs::Refusal::answer))]
 pub fn stretch(store: &Store, channel: u32, first: u32, minutes: &mut [u8]) -> u32
     ensures { Marks store.now channel first minutes.old minutes.new result × (store.exit.now ≡ store.entry.now) }
 {
@@ -165,10 +167,8 @@ pub fn stretch(store: &Store, channel: u32, first: u32, minutes: &mut [u8]) -> u
     if channel >= 6 {
         return 2;
     }
-    let mut i: usize = 0;
-    while i < minutes.len() {
-        minutes[i] = mark(store, channel, first as u64 + i as u64);
-        i += 1;
+    for (i, m) in minutes.iter_mut().enumerate() {
+        *m = mark(store, channel, first as u64 + i as u64);
     }
     0
 }

@@ -1,12 +1,14 @@
 -- Laws of what stands before the first byte that parts, whichever bytes part: where it ends is found byte by byte. Assumes nothing.
-use mathlib.Core.Path.{◌≡◌, refl, ap}
+use mathlib.Core.Path.{◌≡◌, refl, sym, ap, ◌∙◌}
 use mathlib.Core.Bool.{Bool, true, false}
 use mathlib.Core.List.{List, [], ◌∷◌}
-use Prim.Native.Nat.{ℕ, suc, ◌+◌, ◌-◌, ◌≤◌, ◌<◌}
+use Prim.Native.Nat.{ℕ, suc, ◌+◌, ◌-◌, ◌≤◌, ◌<◌, max}
 use native.Mathlib.Omega.{arith}
 use native.Mathlib.Numerals.{add-one}
+use lib.Dec.{leb}
 use lib.ListN.{length, get_or, take, drop, length-drop, drop_of_length-le}
 use lib.Seq.{drop-cons}
+use borrow.Author.Tests.{leb-true, leb-false}
 use Rattle.number.proofs.Sizes.{either_way}
 use Rattle.line.specs.Words.{before, part, end_from}
 
@@ -27,10 +29,24 @@ module _ (parts : ℕ → Bool) where
 
   -- ---- where it ends
 
+  past : (s : List ℕ) (i : ℕ) → length s ≤ i → end_from parts s i ≡ i
+  unfolding end_from before
+  past s i h = rw (drop_of_length-le s h) (omega arith)
+
   module _ (s : List ℕ) (i : ℕ) where
-    pub end_past : length s ≤ i → end_from parts s i ≡ i
-    unfolding end_from before
-    end_past h = rw (drop_of_length-le s h) (omega arith)
+    -- after a search up to the end
+    pub end_none : (at : ℕ) → length s ≤ i → (at ≤ length s → i ≤ length s) → end_from parts s i ≡ end_from parts s at → max at (length s) ≡ end_from parts s at
+    end_none at h l e = go (leb at (length s)) refl
+      where
+        go : (t : Bool) → leb at (length s) ≡ t → max at (length s) ≡ end_from parts s at
+        go true b =
+            let u = l (leb-true at (length s) b) in
+            let m : max at (length s) ≡ i = omega (arith, leb-true at (length s) b) in
+            m ∙ sym (past s i h) ∙ e
+        go false b =
+            let u = leb-false at (length s) b in
+            let m : max at (length s) ≡ at = omega arith in
+            m ∙ sym (past s at (omega arith))
 
     pub end_here : i < length s → parts (get_or s i 0) ≡ true → end_from parts s i ≡ i
     unfolding end_from before

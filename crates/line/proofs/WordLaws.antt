@@ -10,10 +10,11 @@ use native.Mathlib.Nat.{le_refl, add-zero}
 use lib.Dec.{eqb}
 use lib.ListN.{length, get_or, drop, length-take, length-drop, drop_of_length-le}
 use lib.Seq.{drop-cons, drop-drop, take_all}
+use Rattle.std.specs.Prelude.{Option, Some, None, nat_eq}
+use Rattle.std.specs.Cmp.Lexicographic.{pointwise}
 use Rattle.line.specs.Words.{Word, blank, before, words_from, word_number, same, part, end_from, word_at, words_at}
 use Rattle.line.specs.Next.{Start, WordEnd, NextWord}
-use Rattle.line.specs.declared.Part.{Part}
-use Rattle.line.specs.declared.Part.TheVariants.{Between, End}
+use Rattle.line.specs.declared.Place.{Place}
 use Rattle.line.proofs.EndLaws.{end_on, end_inside, before_end}
 
 -- ---- parts
@@ -32,27 +33,22 @@ rest s k = take_all (length s - k) (drop k s) (omega (arith, length-drop k s))
 
 -- ---- where a word starts
 
-start_here : (line : List ℕ) (i : ℕ) → (i < length line → blank (get_or line i 0) ≡ false) → Start line i i
-start_here line i h = record { behind = le_refl i; words = refl; byte = h }
+pub words_past : (line : List ℕ) (i : ℕ) → length line ≤ i → words_at line i ≡ []
+unfolding words_from
+words_past line i h = rw (drop_of_length-le line h)
 
-pub start_byte : (line : List ℕ) (i : ℕ) → blank (get_or line i 0) ≡ false → Start line i i
-start_byte line i e = start_here line i (λ l. e)
-
-pub start_end : (line : List ℕ) (i : ℕ) → length line ≤ i → Start line i i
-start_end line i h = start_here line i (λ l. absurd (omega arith))
+pub start_here : (line : List ℕ) (i : ℕ) → i < length line → blank (get_or line i 0) ≡ false → Start line i (Some i)
+start_here line i h e = record { behind = le_refl i; inside = h; words = refl; byte = e }
 
 skip : (line : List ℕ) (i : ℕ) → i < length line → blank (get_or line i 0) ≡ true → words_at line i ≡ words_at line (i + 1)
 unfolding words_from
 skip line i h e = rw (add-one i, drop-cons line i 0 h, e)
 
-pub start_on : (line : List ℕ) (i r : ℕ) → i < length line → blank (get_or line i 0) ≡ true → Start line (i + 1) r → Start line i r
-start_on line i r h e s = record { behind = omega (arith, s.behind); words = skip line i h e ∙ s.words; byte = s.byte }
+pub start_on : (line : List ℕ) (i : ℕ) → i < length line → blank (get_or line i 0) ≡ true → (r : Option ℕ) → Start line (i + 1) r → Start line i r
+start_on line i h e (Some r) s = record { behind = omega (arith, s.behind); inside = s.inside; words = skip line i h e ∙ s.words; byte = s.byte }
+start_on line i h e None s = skip line i h e ∙ s
 
 -- ---- where a word ends
-
-words_past : (line : List ℕ) (i : ℕ) → length line ≤ i → words_at line i ≡ []
-unfolding words_from
-words_past line i h = rw (drop_of_length-le line h)
 
 -- the words behind a word that reaches up to a place
 words_behind : (k : ℕ) (s : List ℕ) → words_from k true s ≡ words_from (k + length (before blank s)) false (drop (length (before blank s)) s)
@@ -79,36 +75,37 @@ begins : (line : List ℕ) (i : ℕ) → i < length line → blank (get_or line 
 unfolding words_from
 begins line i h e = rw (add-one i, drop-cons line i 0 h, e)
 
-pub word_found : (line : List ℕ) (at from to : ℕ) → from < length line → Start line at from → WordEnd line (from + 1) to → NextWord line at (Between from to)
-word_found line at from to h s w =
-    let ends : end_from blank line from ≡ to = end_on blank line from h (s.byte h) ∙ sym w in
+pub word_found : (line : List ℕ) (at from to : ℕ) → Start line at (Some from) → WordEnd line (from + 1) to → NextWord line at (Some (record { from = from; to = to }))
+word_found line at from to s w =
+    let h : from < length line = s.inside in
+    let ends : end_from blank line from ≡ to = end_on blank line from h s.byte ∙ sym w in
     let inside = end_inside blank line (from + 1) (omega arith) in
     record {
       words =
           s.words
-          ∙ begins line from h (s.byte h)
+          ∙ begins line from h s.byte
           ∙ rw (before_end blank line from, ends, words_end line (from + 1), ← w);
       within = (s.behind, omega arith, omega arith);
     }
 
-pub word_none : (line : List ℕ) (at from : ℕ) → length line ≤ from → Start line at from → NextWord line at End
-word_none line at from h s = record { words = s.words ∙ words_past line from h; within = tt }
+pub word_none : (line : List ℕ) (at : ℕ) → Start line at None → NextWord line at None
+word_none line at s = record { words = s; within = tt }
 
 -- what the next word says of the line
-pub record WordIs (line : List ℕ) (at from to : ℕ) : Type 0 where
-  pub words : words_at line at ≡ word_at line from to ∷ words_at line to
-  pub behind : at ≤ from
-  pub some : from < to
-  pub inside : to ≤ length line
+pub record WordIs (line : List ℕ) (at : ℕ) (p : Place) : Type 0 where
+  pub words : words_at line at ≡ word_at line p.from p.to ∷ words_at line p.to
+  pub behind : at ≤ p.from
+  pub some : p.from < p.to
+  pub inside : p.to ≤ length line
 
-pub word_is : {line : List ℕ} {at from to : ℕ} {r : Part} → NextWord line at r → r ≡ Between from to → WordIs line at from to
-word_is {line} {at} {from} {to} {r} n e =
-    let m : NextWord line at (Between from to) = rw e at n in
+pub word_is : {line : List ℕ} {at : ℕ} {p : Place} {r : Option Place} → NextWord line at r → r ≡ Some p → WordIs line at p
+word_is {line} {at} {p} {r} n e =
+    let m : NextWord line at (Some p) = rw e at n in
     record { words = m.words; behind = m.within.0; some = m.within.1; inside = m.within.2 }
 
-pub word_end_is : {line : List ℕ} {at : ℕ} {r : Part} → NextWord line at r → r ≡ End → words_at line at ≡ []
+pub word_end_is : {line : List ℕ} {at : ℕ} {r : Option Place} → NextWord line at r → r ≡ None → words_at line at ≡ []
 word_end_is {line} {at} {r} n e =
-    let m : NextWord line at End = rw e at n in
+    let m : NextWord line at None = rw e at n in
     m.words
 
 -- ---- the word with a number
@@ -117,37 +114,22 @@ pub number_none : (n : ℕ) {ws : List Word} → ws ≡ [] → word_number n ws 
 unfolding word_number
 number_none n h = rw h
 
-pub number_here : {line : List ℕ} {at from to : ℕ} → WordIs line at from to → word_number 0 (words_at line at) ≡ part line from to
+pub number_here : {line : List ℕ} {at : ℕ} {p : Place} → WordIs line at p → word_number 0 (words_at line at) ≡ part line p.from p.to
 unfolding word_number
 number_here w = rw w.words
 
-pub number_on : {line : List ℕ} {at from to : ℕ} (n : ℕ) → 0 < n → WordIs line at from to → word_number (n - 1) (words_at line to) ≡ word_number n (words_at line at)
+pub number_on : {line : List ℕ} {at : ℕ} {p : Place} (n : ℕ) → 0 < n → WordIs line at p → word_number (n - 1) (words_at line p.to) ≡ word_number n (words_at line at)
 unfolding word_number
-number_on {line} {at} {from} {to} n h w =
+number_on {line} {at} {p} n h w =
     let e : n ≡ suc (n - 1) = omega arith in
-    rw w.words (ap (λ (m : ℕ). word_number m (word_at line from to ∷ words_at line to)) (sym e))
+    rw w.words (ap (λ (m : ℕ). word_number m (word_at line p.from p.to ∷ words_at line p.to)) (sym e))
 
 -- ---- the same text
 
-pub same_lengths : (a b : List ℕ) → (length a ≡ length b → ⊥) → same a b ≡ false
+-- what `==` tells of two texts
+pub same_is : (a b : List ℕ) → same a b ≡ pointwise nat_eq a b
 unfolding same
-same_lengths [] [] h = absurd (h refl)
-same_lengths [] (y ∷ b) h = refl
-same_lengths (x ∷ a) [] h = refl
-same_lengths (x ∷ a) (y ∷ b) h = go (same_lengths a b (λ e. h (ap suc e))) (eqb x y)
-  where
-    go : same a b ≡ false → (t : Bool) → (t && same a b) ≡ false
-    go ih true = ih
-    go ih false = refl
-
-pub same_on : (a b : List ℕ) (i : ℕ) → i < length a → i < length b → eqb (get_or a i 0) (get_or b i 0) ≡ true → same (drop i a) (drop i b) ≡ same (drop (i + 1) a) (drop (i + 1) b)
-unfolding same
-same_on a b i h l e = rw (add-one i, drop-cons a i 0 h, drop-cons b i 0 l, e)
-
-pub same_not : (a b : List ℕ) (i : ℕ) → i < length a → i < length b → eqb (get_or a i 0) (get_or b i 0) ≡ false → same (drop i a) (drop i b) ≡ false
-unfolding same
-same_not a b i h l e = rw (drop-cons a i 0 h, drop-cons b i 0 l, e)
-
-pub same_end : (a b : List ℕ) (i : ℕ) → length a ≤ i → length b ≤ i → same (drop i a) (drop i b) ≡ true
-unfolding same
-same_end a b i h l = rw (drop_of_length-le a h, drop_of_length-le b l)
+same_is [] [] = refl
+same_is [] (y ∷ b) = refl
+same_is (x ∷ a) [] = refl
+same_is (x ∷ a) (y ∷ b) = ap (λ (t : Bool). eqb x y && t) (same_is a b)

@@ -2,22 +2,15 @@
 #![tactic(auto)]
 
 ghost use Rattle.std.specs.Prelude.{◌≡◌, ◌+◌};
-ghost use Rattle.line.specs.Words.{blank, same, words, word_number, field_end};
+ghost use Rattle.line.specs.Words.{blank, words, word_number, field_end};
 ghost use Rattle.line.specs.Numeral.{minus, natural, up_to, whole, signed};
 ghost use Rattle.line.specs.Next.{Start, WordEnd, NextWord};
 
-// A part of a line: its first byte, and the place behind its last.
+// Where a word stands in a line: its first byte, and the place behind its last.
 #[derive(Clone, Copy)]
-pub enum Part {
-    Between(usize, usize),
-    End,
-}
-
-// The number that a text says.
-#[derive(Clone, Copy)]
-pub enum Said {
-    Number(u64),
-    NoNumber,
+pub struct Place {
+    pub from: usize,
+    pub to: usize,
 }
 
 // ---- words
@@ -26,53 +19,40 @@ pub enum Said {
 fn blank(b: u8) -> bool
     ensures { result ≡ blank b }
 {
-    if b == 0x20 {
-        return true;
-    }
-    if b == 0x09 {
-        return true;
-    }
-    b == 0x0D
+    b == b' ' || b == b'\t' || b == b'\r'
 }
 
-// The first byte from a place on that is no blank, or the line's end.
-fn word_start(line: &[u8], at: usize) -> usize
+// The first byte from a place on that is no blank.
+fn word_start(line: &[u8], at: usize) -> Option<usize>
     ensures { Start line.now at result }
 {
-    let mut i = at;
-    while i < line.len() {
+    for i in at..line.len() {
         if !blank(line[i]) {
-            return i;
+            return Some(i);
         }
-        i += 1;
     }
-    i
+    None
 }
 
 // The first blank from a place on, or the line's end.
 fn word_end(line: &[u8], at: usize) -> usize
     ensures { WordEnd line.now at result }
 {
-    let mut i = at;
-    while i < line.len() {
+    for i in at..line.len() {
         if blank(line[i]) {
             return i;
         }
-        i += 1;
     }
-    i
+    at.max(line.len())
 }
 
-// The next word from a place on.
-pub fn next_word(line: &[u8], at: usize) -> Part
+// The next word from a place on, where there is one.
+pub fn next_word(line: &[u8], at: usize) -> Option<Place>
     ensures { NextWord line.now at result }
 {
-    let from = word_start(line, at);
-    if from < line.len() {
-        let to = word_end(line, from + 1);
-        return Part::Between(from, to);
-    }
-    Part::End
+    let from = word_start(line, at)?;
+    let to = word_end(line, from + 1);
+    Some(Place { from, to })
 }
 
 // The word of a line with a number, counted from 0; empty where there is none.
@@ -81,95 +61,63 @@ pub fn word(line: &[u8], number: usize) -> &[u8]
 {
     let mut at = 0;
     let mut left = number;
-    loop {
-        match next_word(line, at) {
-            Part::End => {
-                return &line[0..0];
-            }
-            Part::Between(from, to) => {
-                if left == 0 {
-                    return &line[from..to];
-                }
-                left -= 1;
-                at = to;
-            }
+    // A `while`, since a word is found behind the one before it: no index counts them.
+    while let Some(place) = next_word(line, at) {
+        if left == 0 {
+            return &line[place.from..place.to];
         }
+        left -= 1;
+        at = place.to;
     }
+    &[]
 }
 
 // ---- fields
 
 // Where a field ends that starts at a place: the first colon from there on, or the word's end.
+// (It looks like `word_end`: one function over a closure would promise what the closure does, and say it no plainer.)
 pub fn field_end(word: &[u8], at: usize) -> usize
     ensures { result ≡ field_end word.now at }
 {
-    let mut i = at;
-    while i < word.len() {
+    for i in at..word.len() {
         if word[i] == b':' {
             return i;
         }
-        i += 1;
     }
-    i
-}
-
-// Whether two texts are the same.
-pub fn same(a: &[u8], b: &[u8]) -> bool
-    ensures { result ≡ same a.now b.now }
-{
-    if a.len() != b.len() {
-        return false;
-    }
-    let mut i = 0;
-    while i < a.len() {
-        if a[i] != b[i] {
-            return false;
-        }
-        i += 1;
-    }
-    true
+    at.max(word.len())
 }
 
 // ---- numbers
 
 // The number that digits say, where it is no larger than `most`.
-fn natural(digits: &[u8], most: u32) -> Said
+fn natural(digits: &[u8], most: u32) -> Option<u64>
     ensures { result ≡ up_to most (natural digits.now) }
 {
-    if digits.len() == 0 {
-        return Said::NoNumber;
+    if digits.is_empty() {
+        return None;
     }
     let mut n: u64 = 0;
-    let mut i = 0;
-    while i < digits.len() {
-        let b = digits[i];
-        if b < b'0' {
-            return Said::NoNumber;
-        }
-        if b'9' < b {
-            return Said::NoNumber;
+    for &b in digits {
+        if !b.is_ascii_digit() {
+            return None;
         }
         n = 10 * n + (b - b'0') as u64;
-        if (most as u64) < n {
-            return Said::NoNumber;
+        if n > most as u64 {
+            return None;
         }
-        i += 1;
     }
-    Said::Number(n)
+    Some(n)
 }
 
 // Whether a text begins with a minus.
 fn minus(text: &[u8]) -> bool
     ensures { result ≡ minus text.now }
 {
-    if text.len() == 0 {
-        return false;
-    }
-    text[0] == b'-'
+    text.len() > 0 && text[0] == b'-'
 }
 
 // The number without a sign that a text says, where it is no larger than `most`.
-pub fn whole(text: &[u8], most: u32) -> Said
+pub fn whole(text: &[u8], most: u32) -> Option<u64>
     ensures { result ≡ whole most text.now }
 {
     if minus(text) {
@@ -179,17 +127,13 @@ pub fn whole(text: &[u8], most: u32) -> Said
 }
 
 // The number with a sign that a text says, where it has 32 bits: as itself plus 2147483648.
-pub fn signed(text: &[u8]) -> Said
+pub fn signed(text: &[u8]) -> Option<u64>
     ensures { result ≡ signed text.now }
 {
     if minus(text) {
-        return match natural(&text[1..], 2147483648) {
-            Said::Number(n) => Said::Number(2147483648 - n),
-            Said::NoNumber => Said::NoNumber,
-        };
+        let n = natural(&text[1..], 2147483648)?;
+        return Some(2147483648 - n);
     }
-    match natural(text, 2147483647) {
-        Said::Number(n) => Said::Number(2147483648 + n),
-        Said::NoNumber => Said::NoNumber,
-    }
+    let n = natural(text, 2147483647)?;
+    Some(2147483648 + n)
 }

@@ -3,7 +3,6 @@
 
 ghost use Rattle.std.specs.Prelude.{◌≤◌, length, IfOk};
 
-use listing::Listed;
 use std::io;
 use std::io::Read;
 
@@ -15,6 +14,7 @@ fn read_full(input: &mut impl Read, bytes: &mut [u8]) -> io::Result<usize>
     ensures { IfOk result (λ n. n ≤ length bytes.new) }
 {
     let mut done = 0;
+    // A `while`, since a read may give fewer bytes than there is room for.
     while done < bytes.len() {
         let n = input.read(&mut bytes[done..])?;
         if n == 0 {
@@ -37,8 +37,8 @@ fn main(rt: HostRuntime) -> io::Result<()> {
     let mut file = [0u8; MOST];
     let n = read_full(&mut rt.stdin(), &mut file)?;
     let mut text = [0u8; listing::TEXT];
-    match listing::list(&file[..n], &mut text) {
-        Listed::Text(k) => say(&rt, &text, k),
-        Listed::TooShort(_) => Ok(()),
+    if let Ok(k) = listing::list(&file[..n], &mut text) {
+        say(&rt, &text, k)?;
     }
+    Ok(())
 }

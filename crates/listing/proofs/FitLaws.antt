@@ -1,19 +1,17 @@
 -- Every listing fits: the fields of any bytes have few digits, a good file has at most 48 records, and the place where a broken one
 -- is wrong lies within it. Assumes nothing.
 use mathlib.Core.Path.{◌≡◌, refl, sym, ap, ◌∙◌}
-use mathlib.Core.Bool.{Bool, true, false, cond}
 use mathlib.Core.List.{List, ◌++◌}
 use Prim.Native.Nat.{ℕ, zero, suc, ◌+◌, ◌*◌, ◌^◌, ◌≤◌, ◌<◌}
 use native.Mathlib.Omega.{arith}
-use lib.Dec.{eqb}
-use lib.IntN.{ℤ, nat_abs}
+use lib.IntN.{ℤ}
 use lib.ListN.{length, get_or, drop, length-append}
 use borrow.Author.Tests.{leb-true}
 use Rattle.number.specs.Refusal.{Answer, refused, given}
 use Rattle.number.proofs.RefusalLaws.{given_is}
 use Rattle.text.proofs.DecimalLaws.{decimal_length, decimal_of-length}
-use Rattle.octets.specs.Bytes.{AreBytes, le16, le32}
-use Rattle.octets.proofs.ByteLaws.{bytes_drop, le16_small, le32_small, signed16_small}
+use Rattle.octets.specs.Bytes.{AreBytes, le32}
+use Rattle.octets.proofs.ByteLaws.{bytes_drop, le32_small}
 use Rattle.watchfile.specs.Rules.{size_of}
 use Rattle.watchfile.specs.Fields.{field_tests}
 use Rattle.watchfile.specs.Format.{body_of, fields, count_of, start_of, records_from, records, reading}

@@ -2,18 +2,18 @@
 -- are put one by one. Assumes nothing.
 use mathlib.Core.Path.{◌≡◌, refl, sym, ap, ◌∙◌, subst}
 use mathlib.Core.List.{List, [], ◌∷◌, ◌++◌, append_assoc}
-use Prim.Native.Nat.{ℕ, zero, suc, ◌+◌, ◌-◌, ◌≤◌, ◌<◌}
+use Prim.Native.Nat.{ℕ, suc, ◌+◌, ◌-◌, ◌≤◌, ◌<◌}
 use native.Mathlib.Omega.{arith}
-use lib.IntN.{ℤ, pos}
+use lib.IntN.{ℤ}
 use lib.ListN.{length, get_or}
 use Rattle.number.specs.Refusal.{given}
-use Rattle.text.specs.Text.{Put, decimal_of, field, field_of, end}
-use Rattle.text.proofs.PutLaws.{join, put_nothing}
+use Rattle.text.specs.declared.Page.{Page}
+use Rattle.text.specs.Text.{Puts, decimal_of, field, field_of, end}
+use Rattle.text.proofs.PutLaws.{then, put_nothing}
 use Rattle.watchfile.specs.Format.{blank, figures_of, body_figures, reading}
 use Rattle.watchfile.specs.declared.Body.{Body}
 use Rattle.watchfile.specs.declared.Body.TheVariants.{Pressure, Tendency, Wind, Humidity}
 use Rattle.watchfile.specs.declared.Record.{Record}
-use Rattle.watchfile.specs.declared.Figures.{Figures}
 use Rattle.reader.specs.Read.{record_at}
 use Rattle.reader.proofs.RecordLaws.{good_record}
 use Rattle.listing.specs.Listing.{letter, body_text, record_line, record_lines}
@@ -58,19 +58,19 @@ good_lines rule s rs good = lines_of s 0 rs (λ k h. let e : 0 + k ≡ k = omega
 -- ---- put one by one
 
 -- a line and those behind it are those from it on
-pub put_line : {b b₁ b₂ : List ℕ} {at k₁ k₂ : ℕ} (s : List ℕ) (count i : ℕ) → i < count
-    → Put b b₁ at (figures_line (record_at s i)) k₁ → Put b₁ b₂ k₁ (lines_from s (i + 1) (count - (i + 1))) k₂
-    → Put b b₂ at (lines_from s i (count - i)) k₂
+pub put_line : {p q r : Page} (s : List ℕ) (count i : ℕ) → i < count
+    → Puts p q (figures_line (record_at s i)) → Puts q r (lines_from s (i + 1) (count - (i + 1)))
+    → Puts p r (lines_from s i (count - i))
 unfolding lines_from
-put_line {b} {b₁} {b₂} {at} {k₁} {k₂} s count i h p q =
+put_line {p} {q} {r} s count i h a b =
     let m = count - (i + 1) in
     let e : suc m ≡ count - i = omega arith in
     let next : i + 1 ≡ suc i = omega arith in
-    subst (λ (n : ℕ). Put b b₂ at (lines_from s i n) k₂) e (join p (subst (λ (j : ℕ). Put b₁ b₂ k₁ (lines_from s j m) k₂) next q))
+    subst (λ (n : ℕ). Puts p r (lines_from s i n)) e (then a (subst (λ (j : ℕ). Puts q r (lines_from s j m)) next b))
 
 -- and none are left at the end
-pub no_line : (b : List ℕ) (at : ℕ) (s : List ℕ) (count i : ℕ) → count ≤ i → at ≤ length b → Put b b at (lines_from s i (count - i)) at
+pub no_line : (p : Page) (s : List ℕ) (count i : ℕ) → count ≤ i → p.at ≤ length p.text.now → Puts p p (lines_from s i (count - i))
 unfolding lines_from
-no_line b at s count i h l =
+no_line p s count i h l =
     let e : count - i ≡ 0 = omega arith in
-    rw e (put_nothing b at l)
+    rw e (record { put = put_nothing p.text.now p.at l; lent = refl })

@@ -14,15 +14,15 @@ use Rattle.octets.specs.Bytes.{AreBytes}
 use Rattle.octets.proofs.LentLaws.{refused_leaves, given_lays}
 use Rattle.watchfile.specs.Format.{reading}
 use Rattle.listing.specs.Listing.{listing_of, TEXT, list_tests, listing, listed_as, Lists}
-use Rattle.listing.specs.declared.Listed.{Listed}
-use Rattle.listing.specs.declared.Listed.TheVariants.{Text}
+use Rattle.std.specs.Prelude.{Result, Ok}
+use Rattle.listing.specs.declared.TooShort.{TooShort}
 use Rattle.listing.proofs.FitLaws.{listing_fits}
 
 module _ (text before after : List ℕ) where
-  pub refused_leaves_every_byte : (l : Listed) (r : Numbered) → Lists text before after l → listed_as l ≡ refused r → after ≡ before
+  pub refused_leaves_every_byte : (l : Result ℕ TooShort) (r : Numbered) → Lists text before after l → listed_as l ≡ refused r → after ≡ before
   refused_leaves_every_byte l r h e = h.bytes ∙ refused_leaves (listing text (length before)) before r (sym h.answer ∙ e)
 
-  module _ (n : ℕ) (h : Lists text before after (Text n)) where
+  module _ (n : ℕ) (h : Lists text before after (Ok n)) where
     pub text_is_there : take n after ≡ text
     unfolding listing
     text_is_there =

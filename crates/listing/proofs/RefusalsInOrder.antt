@@ -10,7 +10,8 @@ use Rattle.number.proofs.RefusalLaws.{refused_exactly, given_exactly}
 use Rattle.octets.specs.Lent.{sized}
 use Rattle.octets.proofs.LentLaws.{sized_refused}
 use Rattle.listing.specs.Listing.{list_tests, listing, listed_as, Lists}
-use Rattle.listing.specs.declared.Listed.{Listed}
+use Rattle.std.specs.Prelude.{Result}
+use Rattle.listing.specs.declared.TooShort.{TooShort}
 
 module _ (text : List ℕ) (room : ℕ) where
   pub lists_in_order : (r : Numbered) → (listing text room ≡ refused r) ↔ First (list_tests text room) r
@@ -22,7 +23,7 @@ module _ (text : List ℕ) (room : ℕ) where
   listed_exactly = given_exactly text (list_tests text room)
 
 -- The same of what `list` answers.
-pub list_refused : (text before after : List ℕ) (l : Listed) → Lists text before after l → (n : Numbered) → (listed_as l ≡ refused n) ↔ First (list_tests text (length before)) n
+pub list_refused : (text before after : List ℕ) (l : Result ℕ TooShort) → Lists text before after l → (n : Numbered) → (listed_as l ≡ refused n) ↔ First (list_tests text (length before)) n
 list_refused text before after l h n =
     let law = lists_in_order text (length before) n in
     (λ e. law.0 (sized_refused (listing text (length before)) n (sym h.answer ∙ e)), λ f. h.answer ∙ ap sized (law.1 f))

@@ -7,17 +7,17 @@ use Rattle.number.specs.Single.{Single, SingleLeft}
 use Rattle.number.specs.Refusal.{Answer, refused, given, Numbered}
 use Rattle.watchfile.proofs.DewRules.{the_rule}
 use Rattle.listing.specs.Listing.{listed_as}
-use Rattle.listing.specs.declared.Listed.{Listed}
-use Rattle.listing.specs.declared.Listed.TheVariants.{Text, TooShort}
+use Rattle.std.specs.Prelude.{Result, Ok, Err}
+use Rattle.listing.specs.declared.TooShort.{TooShort}
 use Rattle.listing.proofs.list.Reads as list
 
-abbrev case_of : Answer Numbered ℕ → Listed
-case_of (refused r) = TooShort (get_or r.extra 0 0)
-case_of (given n) = Text n
+abbrev case_of : Answer Numbered ℕ → Result ℕ TooShort
+case_of (refused r) = Err (record { 0 = get_or r.extra 0 0 })
+case_of (given n) = Ok n
 
-case_back : (l : Listed) → case_of (listed_as l) ≡ l
-case_back (Text n) = refl
-case_back (TooShort n) = refl
+case_back : (l : Result ℕ TooShort) → case_of (listed_as l) ≡ l
+case_back (Ok n) = refl
+case_back (Err b) = refl
 
 pub single_list : Single list.Post
 single_list κs a r r' s s' p q =

@@ -1,5 +1,5 @@
 -- The listing of a watch file (document 01, "Watch file").
-use Rattle.std.specs.Prelude.{◌≡◌, List, [], ◌∷◌, ◌++◌, ℕ, ◌+◌, ◌*◌, length}
+use Rattle.std.specs.Prelude.{◌≡◌, List, [], ◌∷◌, ◌++◌, ℕ, ◌+◌, ◌*◌, length, Result, Ok, Err}
 use Rattle.number.specs.Refusal.{Test, Answer, refused, given, answer, Numbered, numbered}
 use Rattle.octets.specs.Lent.{short, sized, left_by}
 use Rattle.text.specs.Letters.{letters}
@@ -7,8 +7,7 @@ use Rattle.text.specs.Text.{field, field_of, end}
 use Rattle.watchfile.specs.declared.Body.{Body}
 use Rattle.watchfile.specs.declared.Body.TheVariants.{Pressure, Tendency, Wind, Humidity}
 use Rattle.watchfile.specs.declared.Record.{Record}
-use Rattle.listing.specs.declared.Listed.{Listed}
-use Rattle.listing.specs.declared.Listed.TheVariants.{Text, TooShort}
+use Rattle.listing.specs.declared.TooShort.{TooShort}
 
 -- "kind letter P, T, W or H"
 abbrev pub letter : Body → List ℕ
@@ -67,11 +66,11 @@ unfoldable pub listing : List ℕ → ℕ → Answer Numbered (List ℕ)
 listing text room = answer (list_tests text room) text
 
 -- Document 01's number of each case, and what it also returns.
-abbrev pub listed_as : Listed → Answer Numbered ℕ
-listed_as (Text n) = given n
-listed_as (TooShort n) = refused (numbered 17 (n ∷ []))
+abbrev pub listed_as : Result ℕ TooShort → Answer Numbered ℕ
+listed_as (Ok n) = given n
+listed_as (Err needed) = refused (numbered 17 (needed.0 ∷ []))
 
 -- A text was to be put into the buffer `before`, which is `after` then, and was answered by r.
-pub record Lists (text before after : List ℕ) (r : Listed) : Type 0 where
+pub record Lists (text before after : List ℕ) (r : Result ℕ TooShort) : Type 0 where
   pub answer : listed_as r ≡ sized (listing text (length before))
   pub bytes : after ≡ left_by before (listing text (length before))

@@ -2,23 +2,19 @@
 #![tactic(auto)]
 
 ghost use Rattle.std.specs.Prelude.{◌≡◌, [], ◌∷◌, ◌++◌, ℕ, ◌≤◌, ℤ, length};
-ghost use Rattle.text.specs.Text.{field_of, Put};
-ghost use Rattle.listing.specs.Listing.{head_line, refused_line, listing_of, Lists};
+ghost use Rattle.text.specs.Text.{field, field_of, end, Puts};
+ghost use Rattle.listing.specs.Listing.{head_line, listing_of, Lists};
 ghost use Rattle.listing.specs.Lines.{letter_of, humidity_text, figures_text, figures_line, lines_from};
 ghost use Rattle.watchfile.specs.Format.{DewRule, reading};
 
 use number::Kept;
-use reader::Verdict;
+use reader::Broken;
+use text::Page;
 use watchfile::{Figures, RECORDS};
 
-// What listing came to.
+// 17: the bytes that the text needs.
 #[derive(Clone, Copy)]
-pub enum Listed {
-    // the bytes of the text
-    Text(usize),
-    // 17: the bytes needed
-    TooShort(usize),
-}
+pub struct TooShort(pub usize);
 
 // The longest line: a letter, a minute of 10 digits, numbers of 5, 5, 5 and 3, one of 10 with its minus, spaces, and the end.
 const LINE: usize = 1 + 11 + 3 * 6 + 4 + 12 + 1;
@@ -26,142 +22,128 @@ const LINE: usize = 1 + 11 + 3 * 6 + 4 + 12 + 1;
 // Room for every listing: `WT 1 48` with its end, and 48 lines.
 pub const TEXT: usize = 8 + RECORDS * LINE;
 
-// Puts two fields. As all of these it gives the place behind what it put.
-fn put_pair(text: &mut [u8], at: usize, first: Kept, second: Kept) -> usize
-    ensures { Put text.old text.new at (field_of first.v ++ field_of second.v) result }
+// Puts two fields.
+fn put_pair(page: &mut Page<'_>, first: Kept, second: Kept)
+    ensures { Puts page.old page.new (field_of first.v ++ field_of second.v) }
 {
-    let behind = text::put_signed(text, at, first.number());
-    text::put_signed(text, behind, second.number())
+    page.signed(first.number());
+    page.signed(second.number());
 }
 
 // Puts the fields of a humidity.
-fn put_humidity(text: &mut [u8], at: usize, r: Figures) -> usize
-    ensures { Put text.old text.new at (humidity_text r) result }
+fn put_humidity(page: &mut Page<'_>, r: Figures)
+    ensures { Puts page.old page.new (humidity_text r) }
 {
-    let first = r.first;
-    let second = r.second;
-    let third = r.third;
-    let fourth = r.fourth;
-    let fifth = r.fifth;
-    let half = put_pair(text, at, first, second);
-    let behind = put_pair(text, half, third, fourth);
-    text::put_signed(text, behind, fifth.number())
+    put_pair(page, r.first, r.second);
+    put_pair(page, r.third, r.fourth);
+    page.signed(r.fifth.number());
 }
 
 // The letter of a kind.
 fn letter(kind: u32) -> u8
     ensures { result ∷ [] ≡ letter_of kind }
 {
-    if kind == 1 {
-        return b'P';
+    match kind {
+        1 => b'P',
+        2 => b'T',
+        3 => b'W',
+        _ => b'H',
     }
-    if kind == 2 {
-        return b'T';
-    }
-    if kind == 3 {
-        return b'W';
-    }
-    b'H'
 }
 
 // Puts the fields of a body.
-fn put_body(text: &mut [u8], at: usize, r: Figures) -> usize
-    ensures { Put text.old text.new at (figures_text r) result }
+fn put_body(page: &mut Page<'_>, r: Figures)
+    ensures { Puts page.old page.new (figures_text r) }
 {
-    let first = r.first;
-    if r.kind == 1 {
-        return text::put_signed(text, at, first.number());
+    match r.kind {
+        1 => page.signed(r.first.number()),
+        4 => put_humidity(page, r),
+        _ => put_pair(page, r.first, r.second),
     }
-    if r.kind == 4 {
-        return put_humidity(text, at, r);
-    }
-    let second = r.second;
-    put_pair(text, at, first, second)
+}
+
+// Ends a line.
+fn put_end(page: &mut Page<'_>)
+    ensures { Puts page.old page.new end }
+{
+    page.byte(b'\n');
 }
 
 // Puts the line of a record; nothing where there is none.
-fn put_record(text: &mut [u8], at: usize, r: Figures) -> usize
-    ensures { Put text.old text.new at (figures_line r) result }
+fn put_record(page: &mut Page<'_>, r: Figures)
+    ensures { Puts page.old page.new (figures_line r) }
 {
     if r.kind == 0 {
-        return text::put_bytes(text, at, b"");
+        return page.bytes(b"");
     }
-    let minute = text::put_byte(text, at, letter(r.kind));
-    let fields = text::put_field(text, minute, r.minute as u64);
-    let end = put_body(text, fields, r);
-    text::put_byte(text, end, b'\n')
+    page.byte(letter(r.kind));
+    page.field(r.minute as u64);
+    put_body(page, r);
+    put_end(page);
 }
 
 // Puts the lines of the first `count` records of a file.
-fn put_records(text: &mut [u8], at: usize, count: usize, file: &[u8]) -> usize
-    requires { at ≤ length text.old }
-    ensures { Put text.old text.new at (lines_from file.now 0 count) result }
+fn put_records(page: &mut Page<'_>, count: usize, file: &[u8])
+    requires { page.old.at ≤ length page.old.text.now }
+    ensures { Puts page.old page.new (lines_from file.now 0 count) }
 {
-    let mut place = at;
-    let mut i = 0;
-    while i < count {
-        place = put_record(text, place, reader::record_at(file, i));
-        i += 1;
+    for i in 0..count {
+        put_record(page, reader::record_at(file, i));
     }
-    place
 }
 
-// Puts the first line of a good file.
-fn put_head(text: &mut [u8], count: usize) -> usize
-    ensures { Put text.old text.new 0 (head_line count) result }
+// Puts a line of words and a number.
+fn put_line(page: &mut Page<'_>, words: &[u8], n: usize)
+    ensures { Puts page.old page.new (words.now ++ (field n ++ end)) }
 {
-    let label = text::put_bytes(text, 0, b"WT 1");
-    let number = text::put_field(text, label, count as u64);
-    text::put_byte(text, number, b'\n')
-}
-
-// Puts the line of a broken file.
-fn put_refusal(text: &mut [u8], place: usize) -> usize
-    ensures { Put text.old text.new 0 (refused_line place) result }
-{
-    let words = text::put_bytes(text, 0, b"refused 18 at");
-    let number = text::put_field(text, words, place as u64);
-    text::put_byte(text, number, b'\n')
+    page.bytes(words);
+    page.field(n as u64);
+    put_end(page);
 }
 
 // Puts the listing of a good file.
-fn put_listing(text: &mut [u8], count: usize, file: &[u8]) -> usize
-    ensures { Put text.old text.new 0 (head_line count ++ lines_from file.now 0 count) result }
+fn put_listing(page: &mut Page<'_>, count: usize, file: &[u8])
+    ensures { Puts page.old page.new (head_line count ++ lines_from file.now 0 count) }
 {
-    let behind = put_head(text, count);
-    put_records(text, behind, count, file)
+    put_line(page, b"WT 1", count);
+    put_records(page, count, file);
 }
 
 // Puts the listing of a watch file: a line for the file and one for each record, or one that says where it is broken.
-fn put_file(text: &mut [u8], file: &[u8]) -> usize
-    ensures { (rule : ℕ → ℤ) → DewRule rule → Put text.old text.new 0 (listing_of (reading rule file.now)) result }
+fn put_file(page: &mut Page<'_>, file: &[u8])
+    ensures { (rule : ℕ → ℤ) → DewRule rule → Puts page.old page.new (listing_of (reading rule file.now)) }
 {
     match reader::read(file) {
-        Verdict::Good(count) => put_listing(text, count, file),
-        Verdict::Broken(place) => put_refusal(text, place),
+        Ok(count) => put_listing(page, count, file),
+        Err(Broken(place)) => put_line(page, b"refused 18 at", place),
     }
 }
 
 // The same into room that may be too short for it: it is put elsewhere first.
-fn list_short(file: &[u8], text: &mut [u8]) -> Listed
+fn list_short(file: &[u8], text: &mut [u8]) -> Result<usize, TooShort>
     ensures { (rule : ℕ → ℤ) → DewRule rule → Lists (listing_of (reading rule file.now)) text.old text.new result }
 {
     let mut whole = [0u8; TEXT];
-    let n = put_file(&mut whole, file);
+    let mut page = Page::new(&mut whole);
+    put_file(&mut page, file);
+    let n = page.at;
     let short = text.len() < n;
     if short {
-        return Listed::TooShort(n);
+        return Err(TooShort(n));
     }
-    text::put_bytes(text, 0, &whole[..n]);
-    Listed::Text(n)
+    let listed = &page.text[..n];
+    text[..n].copy_from_slice(listed);
+    Ok(n)
 }
 
 // Puts the listing of a watch file at the start of the lent bytes and says how long it is, or gives refusal 17 and leaves every byte.
-pub fn list(file: &[u8], text: &mut [u8]) -> Listed
+pub fn list(file: &[u8], text: &mut [u8]) -> Result<usize, TooShort>
     ensures { (rule : ℕ → ℤ) → DewRule rule → Lists (listing_of (reading rule file.now)) text.old text.new result }
 {
     if text.len() < TEXT {
         return list_short(file, text);
     }
-    Listed::Text(put_file(text, file))
+    let mut page = Page::new(text);
+    put_file(&mut page, file);
+    Ok(page.at)
 }

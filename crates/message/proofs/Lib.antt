@@ -3,6 +3,7 @@ pub mod ValueLaws
 pub mod Pattern
 pub mod Ten
 pub mod Keep
+pub mod ReceivedLaws
 pub mod Worked
 pub mod SingleAnswers
 pub mod RefusalsInOrder

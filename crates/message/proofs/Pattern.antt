@@ -6,7 +6,8 @@ use native.Mathlib.Nat.{lt_of_lt_of_le, mul_assoc, mul-le-mul, le-add_right, one
 use native.Mathlib.Omega.{arith}
 use lib.Dec.{T, leb, eqb}
 use lib.Pow.{pow-add, pow_pos, pow_mono, shl_lt}
-use lib.Ieee.{Float, nan, inf, fin, binary64, up, down, odd, of_fields, of_bits, is_nan}
+use lib.Ieee.{Float, nan, inf, fin, binary64, up, down, odd, of_fields, fits, to_bits, of_bits, is_nan}
+use lib.Ieee.Bits.{of_bits-to_bits}
 use lib.Ieee.Fits.{down_pos}
 use lib.Ieee.Exact.{HasValue, odd_sign}
 use Rattle.number.specs.Whole.{signed}
@@ -101,3 +102,13 @@ large x t l =
 
     room : (x : ℕ) → 1055 ≤ x → 1054 ≤ x - 1
     room x l = omega arith
+
+-- a finite f64, by the fields of its pattern
+pub by_fields : (x : Float) → T (fits binary64 x) → Finite x → let b = to_bits binary64 x in
+    capped 1 x ≡ signed (leb (2 ^ 63) b) (min (to_whole (digits (b % 2 ^ 63 / 2 ^ 52) (b % 2 ^ 52) * 2 ^ (b % 2 ^ 63 / 2 ^ 52 - 1)) (2 ^ 1074)) most)
+by_fields x f h =
+    let b = to_bits binary64 x in
+    let back : of_bits binary64 b ≡ x = of_bits-to_bits binary64 x f in
+    let a = digits (b % 2 ^ 63 / 2 ^ 52) (b % 2 ^ 52) * 2 ^ (b % 2 ^ 63 / 2 ^ 52 - 1) in
+    value_whole x (leb (2 ^ 63) b) a (2 ^ 1074) (pow_pos 1074)
+    (subst (λ (y : Float). HasValue y (leb (2 ^ 63) b) a (2 ^ 1074)) back (bits_value b (subst Finite (sym back) h)))

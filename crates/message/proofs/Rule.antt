@@ -1,8 +1,9 @@
 -- The laws of the rounding of a message's value, of its size m / c: it is to the nearest, a whole number stays, a half goes to the even
 -- neighbour, what is no half rounds as everywhere else; it is IEEE 754's, and so monotone. But for worked examples only this file looks
 -- into `to_whole`. Assumes nothing.
-use mathlib.Core.Path.{◌≡◌, refl, sym, ap, ◌∙◌}
-use Prim.Native.Nat.{ℕ, ◌+◌, ◌*◌, ◌/◌, ◌%◌, ◌≤◌, ◌<◌, compare, Ordering}
+use mathlib.Core.Path.{◌≡◌, refl, sym, ap, ◌∙◌, subst}
+use Prim.Native.Nat.{ℕ, ◌+◌, ◌*◌, ◌/◌, ◌%◌, ◌^◌, ◌≤◌, ◌<◌, compare, Ordering}
+use lib.Pow.{pow_pos}
 use native.Mathlib.Nat.{div-add-mod', div-eq_of_lt-le, mod-lt, mod-le, add-mul, mul_assoc, mul_left_comm, mul-le-mul_right}
 use native.Mathlib.Decide.{dec_le}
 use native.Mathlib.Omega.{arith}
@@ -127,3 +128,17 @@ same a b c d B D e = as_ieee a b B ∙ closest_same a b c d B D e ∙ sym (as_ie
 -- at least n: at least n
 pub high : (n a c : ℕ) → 0 < c → n * c ≤ a → n ≤ to_whole a c
 high n a c C h = omega (arith, whole_stays n c C, monotone (n * c) c a c C C (mul-le-mul_right c h))
+
+-- ---- as the code finds it, at a power of two
+
+at_power : (m k : ℕ) {c n : ℕ} → c ≡ 2 ^ k → n ≡ to_whole m c → n ≡ to_whole m (2 ^ k)
+at_power m k e f = f ∙ ap (to_whole m) e
+
+above_zero : (k : ℕ) {c : ℕ} → c ≡ 2 ^ k → 0 < c
+above_zero k e = subst (λ (x : ℕ). 0 < x) (sym e) (pow_pos k)
+
+pub goes_down : (m k c : ℕ) → c ≡ 2 ^ k → m % c * 2 + m / c % 2 ≤ c → m / c ≡ to_whole m (2 ^ k)
+goes_down m k c e h = at_power m k e (less m c (above_zero k e) h)
+
+pub goes_up : (m k c : ℕ) → c ≡ 2 ^ k → c < m % c * 2 + m / c % 2 → m / c + 1 ≡ to_whole m (2 ^ k)
+goes_up m k c e h = at_power m k e (more m c (above_zero k e) h)

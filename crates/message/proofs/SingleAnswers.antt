@@ -5,17 +5,16 @@ use mathlib.Core.Bool.{cond}
 use Prim.Native.Nat.{ℕ}
 use lib.Dec.{eqb}
 use lib.IntN.{ℤ, pos, nat_abs}
+use Rattle.std.specs.Prelude.{Result, Ok, Err}
 use Rattle.number.specs.Single.{Single}
 use Rattle.number.specs.Refusal.{Answer, refused, given}
-use Rattle.number.specs.declared.Number.{Number}
 use Rattle.number.specs.declared.Kept.{Kept}
 use Rattle.quantity.specs.declared.Minute.{Minute}
 use Rattle.message.specs.Receive.{Figure, hPa, mmHg, °C, m/s, kn, deg, wick, none, on_wick, Entry, entry_of, received_as}
 use Rattle.wire.proofs.SingleAnswers.{refusal, refusal_back}
+use Rattle.wire.specs.declared.MessageRefusal.{MessageRefusal}
 use Rattle.message.specs.declared.Reading.{Reading}
 use Rattle.message.specs.declared.Reading.TheVariants.{Hectopascals, Millimetres, Wheelhouse, ApparentWind, ShipMotion, DryBulb, WetBulb}
-use Rattle.message.specs.declared.Received.{Received}
-use Rattle.message.specs.declared.Received.TheVariants as receiving
 use Rattle.message.proofs.receive.Reads as receive
 
 size : Figure → ℕ
@@ -63,17 +62,14 @@ entry_minute t (ShipMotion v d) = refl
 entry_minute t (DryBulb x) = refl
 entry_minute t (WetBulb s x) = refl
 
-receiving_of : Answer ℕ Entry → Received
-receiving_of (refused n) = receiving.Refused (refusal n)
-receiving_of (given e) = receiving.At (record { 0 = e.minute }) (reading e.channel e.first e.second)
+receiving_of : Answer ℕ Entry → Result (Minute × Reading) MessageRefusal
+receiving_of (refused n) = Err (refusal n)
+receiving_of (given e) = Ok (record { 0 = e.minute }, reading e.channel e.first e.second)
 
-at : ℕ → Reading → Received
-at t r = receiving.At (record { 0 = t }) r
-
-receiving_back : (r : Received) → receiving_of (received_as r) ≡ r
-unfolding receiving_of at
-receiving_back (receiving.Refused r) = ap receiving.Refused (refusal_back r)
-receiving_back (receiving.At t r) = rw (entry_minute t.0 r, entry_back t.0 r)
+receiving_back : (r : Result (Minute × Reading) MessageRefusal) → receiving_of (received_as r) ≡ r
+unfolding receiving_of
+receiving_back (Err r) = ap Err (refusal_back r)
+receiving_back (Ok s) = rw (entry_minute s.0.0 s.1, entry_back s.0.0 s.1)
 
 pub single_receive : Single receive.Post
 single_receive κs a r r' s s' p q = sym (receiving_back r) ∙ ap receiving_of (p ∙ sym q) ∙ receiving_back r'

@@ -1,5 +1,5 @@
 -- From a message to what is kept of it: its values rounded, refusal 7, and the figures of document 01's table.
-use Rattle.std.specs.Prelude.{Bool, not, ◌&&◌, List, [], ◌∷◌, ◌++◌, ℕ, ℤ, pos, negsuc}
+use Rattle.std.specs.Prelude.{Bool, not, ◌&&◌, List, [], ◌∷◌, ◌++◌, ℕ, ℤ, pos, negsuc, Result, Ok, Err}
 use Rattle.number.specs.Refusal.{Test, Answer, refused, given, answer}
 use Rattle.quantity.specs.Limits.{inside, pressure_limits, wheelhouse, bulb, metres_per_second, knots}
 use Rattle.quantity.specs.Limits as limits
@@ -8,15 +8,15 @@ use Rattle.quantity.specs.declared.BarometerUnit.{BarometerUnit}
 use Rattle.quantity.specs.declared.BarometerUnit.TheVariants as unit
 use Rattle.quantity.specs.declared.BulbState.{BulbState}
 use Rattle.quantity.specs.declared.BulbState.TheVariants.{Water}
+use Rattle.quantity.specs.declared.Minute.{Minute}
 use Rattle.wire.specs.Bytes.{minute}
 use Rattle.message.specs.Value.{tenths, degrees}
 use Rattle.wire.specs.Decode.{test, wire_tests, message, number_of}
+use Rattle.wire.specs.declared.MessageRefusal.{MessageRefusal}
 use Rattle.wire.specs.declared.Message.{Message}
 use Rattle.wire.specs.declared.Message.TheVariants.{Barometer, Wheelhouse, ApparentWind, ShipMotion, DryBulb, WetBulb}
 use Rattle.message.specs.declared.Reading.{Reading}
 use Rattle.message.specs.declared.Reading.TheVariants as kept
-use Rattle.message.specs.declared.Received.{Received}
-use Rattle.message.specs.declared.Received.TheVariants.{Refused, At}
 
 -- A figure of the table's column "Values kept", with its unit: tenths, but for directions, which are whole degrees. Beside the wet
 -- bulb's temperature stands what is on its wick.
@@ -109,6 +109,6 @@ entry_of t (kept.ShipMotion v d) = record { channel = 3; minute = t; first = kn 
 entry_of t (kept.DryBulb x) = record { channel = 4; minute = t; first = °C x.0.v; second = none }
 entry_of t (kept.WetBulb s x) = record { channel = 5; minute = t; first = °C x.0.v; second = wick s }
 
-abbrev pub received_as : Received → Answer ℕ Entry
-received_as (Refused r) = refused (number_of r)
-received_as (At t r) = given (entry_of t.0 r)
+abbrev pub received_as : Result (Minute × Reading) MessageRefusal → Answer ℕ Entry
+received_as (Err r) = refused (number_of r)
+received_as (Ok s) = given (entry_of s.0.0 s.1)

@@ -4,7 +4,7 @@ use Rattle.text.specs.Letters.{letters}
 use Rattle.text.specs.Text.{field, end}
 use Rattle.command.specs.declared.Fault.{Fault}
 use Rattle.command.specs.declared.Fault.TheVariants.{NotACommand, WordCount, NotSuch, Misshapen}
-use Rattle.command.specs.declared.Place.{Place}
+use Rattle.line.specs.declared.Place.{Place}
 
 -- `not a command, at 0`: what it is, and the place of the word
 abbrev pub wrong_line : List ℕ → Place → List ℕ

@@ -1,17 +1,15 @@
 -- What the rounding rule means: it is to the nearest, a whole number stays, a half goes away from zero, it is odd and it is
 -- monotone. The size's laws come first, each from two facts on a quotient; the sign is then taken by cases. Assumes nothing.
 use mathlib.Core.Path.{◌≡◌, refl, sym, ap, ◌∙◌}
-use mathlib.Core.Bool.{Bool, true, false}
-use Prim.Native.Nat.{ℕ, zero, suc, ◌+◌, ◌*◌, ◌/◌, ◌≤◌, ◌<◌, zero-le, suc-le-suc}
+use Prim.Native.Nat.{ℕ, zero, suc, ◌+◌, ◌*◌, ◌≤◌, ◌<◌, zero-le, suc-le-suc}
 use native.Mathlib.Omega.{arith}
 use native.Mathlib.Nat.{le_antisymm, le_of_eq, not-suc-le-zero, le_of_suc-le-suc, div-mul-le_self, div-lt_iff_lt-mul, le-div_iff_mul-le, div-eq_of_lt-le, mul-le-mul_left, mul-le-mul_right, mul_left_comm, mul_assoc, mul_comm, add-mul, le_of_mul-le-mul_right, mul-pos, zero-mul}
-use lib.Dec.{T, le→leb, leb→le, ltb→lt}
+use lib.Dec.{T, le→leb, leb→le}
 use lib.IntN.{ℤ, pos, negsuc, neg_ℤ, nat_abs, ◌*ℤ◌, neg_ℤ-neg_ℤ}
 use lib.Signed.{lt_z, le_z, ◌≤ℤ◌}
 use borrow.Author.Tests.{le-ltb}
 use Rattle.number.specs.Whole.{signed}
 use Rattle.number.specs.Round.{nearest, rounded}
-use Rattle.number.proofs.Sizes.{size_neg}
 
 -- ---- the order of numbers with a minus
 

@@ -15,10 +15,8 @@ use Rattle.number.proofs.Number.times.Reads as times
 use Rattle.number.proofs.Number.is_minus.Reads as is-minus
 use Rattle.number.proofs.Number.size.Reads as size
 use Rattle.number.proofs.Number.over.Reads as over
-use Rattle.number.proofs.Number.at_most.Reads as at_most
 use Rattle.number.proofs.Number.within.Reads as within
 use Rattle.number.proofs.power.Reads as power
-use Rattle.number.proofs.smaller.Reads as smaller
 
 pub number_by : {x y : Number} → x.v ≡ y.v → x ≡ y
 number_by e = ap make e
@@ -62,14 +60,8 @@ single_size κs a r r' s s' p q = p ∙ sym q
 pub single_over : Single over.Post
 single_over κs a r r' s s' p q = number_by (p.value ∙ sym q.value)
 
-pub single_at_most : Single at_most.Post
-single_at_most κs a r r' s s' p q = p ∙ sym q
-
 pub single_within : Single within.Post
 single_within κs a r r' s s' p q = p ∙ sym q
 
 pub single_power : Single power.Post
 single_power κs a r r' s s' p q = p ∙ sym q
-
-pub single_smaller : Single smaller.Post
-single_smaller κs a r r' s s' p q = p ∙ sym q

@@ -2,21 +2,21 @@
 // A signed number stands in a struct, so that a contract speaks of the number and not of its bits.
 #![tactic(auto)]
 
-ghost use Rattle.std.specs.Prelude.{◌≡◌, ℕ, ◌+◌, ◌*◌, ◌<◌, ◌^◌, min, ℤ, pos, nat_abs, ◌+ℤ◌, ◌-ℤ◌, ◌*ℤ◌};
-ghost use Rattle.std.specs.Int.Signed.{lt_z, le_z};
+ghost use Rattle.std.specs.Prelude.{◌≡◌, ℕ, ◌+◌, ◌*◌, ◌<◌, ◌^◌, ℤ, pos, nat_abs, ◌+ℤ◌, ◌-ℤ◌, ◌*ℤ◌};
+ghost use Rattle.std.specs.Int.Signed.{lt_z};
 ghost use Rattle.number.specs.Round.{rounded};
 ghost use Rattle.number.specs.Whole.{signed, within, Is};
 
 // A number to compute with.
 #[repr(C)]
-#[derive(Clone, Copy)]
+#[derive(Clone, Copy, PartialEq, Eq, PartialOrd, Ord)]
 pub struct Number {
     pub v: i64,
 }
 
 // A number as it is kept.
 #[repr(C)]
-#[derive(Clone, Copy)]
+#[derive(Clone, Copy, PartialEq, Eq, PartialOrd, Ord)]
 pub struct Kept {
     pub v: i32,
 }
@@ -26,18 +26,19 @@ impl Kept {
     pub fn number(self) -> Number
         ensures { Is result.v self.v (2 ^ 31) }
     {
-        let wide = self.v as i64;
-        Number { v: wide }
+        Number {
+            v: i64::from(self.v),
+        }
     }
 }
 
 impl Number {
+    // (No `From` here: the contracts of these give a size beside the number, which the callers' sums need.)
     // The number x.
     pub fn whole(x: u32) -> Number
         ensures { Is result.v (pos x) 4294967295 }
     {
-        let whole = x as i64;
-        Number { v: whole }
+        Number { v: i64::from(x) }
     }
 
     // The number of this size, with a minus or without.
@@ -46,10 +47,9 @@ impl Number {
         ensures { Is result.v (signed minus size) size }
     {
         let n = size as i64;
-        if minus {
-            return Number { v: 0 - n };
+        Number {
+            v: if minus { -n } else { n },
         }
-        Number { v: n }
     }
 
     // The same number, to be kept.
@@ -57,35 +57,28 @@ impl Number {
         requires { nat_abs self.v < 2 ^ 31 }
         ensures { result.v ≡ self.v }
     {
-        let narrow = self.v as i32;
-        Kept { v: narrow }
+        Kept { v: self.v as i32 }
     }
 
     pub fn plus(self, b: Number) -> Number
         requires { nat_abs self.v + nat_abs b.v < 2 ^ 63 }
         ensures { Is result.v (self.v +ℤ b.v) (nat_abs self.v + nat_abs b.v) }
     {
-        let x = self.v;
-        let y = b.v;
-        Number { v: x + y }
+        Number { v: self.v + b.v }
     }
 
     pub fn minus(self, b: Number) -> Number
         requires { nat_abs self.v + nat_abs b.v < 2 ^ 63 }
         ensures { Is result.v (self.v -ℤ b.v) (nat_abs self.v + nat_abs b.v) }
     {
-        let x = self.v;
-        let y = b.v;
-        Number { v: x - y }
+        Number { v: self.v - b.v }
     }
 
     pub fn times(self, b: Number) -> Number
         requires { nat_abs self.v * nat_abs b.v < 2 ^ 63 }
         ensures { Is result.v (self.v *ℤ b.v) (nat_abs self.v * nat_abs b.v) }
     {
-        let x = self.v;
-        let y = b.v;
-        Number { v: x * y }
+        Number { v: self.v * b.v }
     }
 
     pub fn is_minus(self) -> bool
@@ -94,15 +87,11 @@ impl Number {
         self.v < 0
     }
 
-    // The number without its sign. The smallest i64 has a size too: one is added after the cast.
+    // The number without its sign. The smallest i64 has a size too.
     pub fn size(self) -> u64
         ensures { result ≡ nat_abs self.v }
     {
-        let v = self.v;
-        if v < 0 {
-            return (-1 - v) as u64 + 1;
-        }
-        v as u64
+        self.v.unsigned_abs()
     }
 
     // This number divided by den and rounded: to the nearest, halves away from zero.
@@ -115,20 +104,11 @@ impl Number {
         Number::signed(self.is_minus(), q)
     }
 
-    pub fn at_most(self, b: Number) -> bool
-        ensures { result ≡ le_z self.v b.v }
-    {
-        self.v <= b.v
-    }
-
     // Whether low ≤ this number ≤ high.
     pub fn within(self, low: Number, high: Number) -> bool
         ensures { result ≡ within low.v high.v self.v }
     {
-        if low.at_most(self) {
-            return self.at_most(high);
-        }
-        false
+        low <= self && self <= high
     }
 }
 
@@ -138,11 +118,4 @@ pub fn power(k: u64) -> u64
     ensures { result ≡ 2 ^ k }
 {
     1u64 << k
-}
-
-// The smaller of two lengths.
-pub fn smaller(a: usize, b: usize) -> usize
-    ensures { result ≡ min a b }
-{
-    if a < b { a } else { b }
 }

@@ -2,16 +2,11 @@
 use mathlib.Core.Path.{◌≡◌, ap, ◌∙◌}
 use Prim.Native.Nat.{ℕ, suc, ◌+◌, ◌-◌, ◌%◌, ◌≤◌, ◌<◌}
 use native.Mathlib.Omega.{arith}
-use lib.IntN.{ℤ, pos, negsuc, sub_ℕ}
+use lib.IntN.{ℤ, pos, negsuc}
 use mir.Syntax.{w32}
 use mir.Val.{SFits}
 use borrow.Author.Tests.{lt-ltb, le-ltb}
 use Rattle.octets.specs.Bytes.{signed32, word_of}
-
--- ---- a word from 2147483648 up, less 4294967296, fits 32 bits
-
-pub word_fits : (w : ℕ) → 2147483648 ≤ w → w < 4294967296 → SFits w32 (sub_ℕ w 4294967296)
-word_fits w l h = rw (lt-ltb w 4294967296 h) (record { sfits = omega arith })
 
 -- ---- a number with a sign there and back
 

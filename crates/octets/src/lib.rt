@@ -11,50 +11,44 @@ use number::{Kept, Number};
 pub fn two(a: u8, b: u8) -> u16
     ensures { result ≡ le16 (a ∷ b ∷ []) 0 }
 {
-    (a as u16) + 256 * (b as u16)
+    u16::from_le_bytes([a, b])
 }
 
 // The number in four bytes.
 pub fn four(a: u8, b: u8, c: u8, d: u8) -> u32
     ensures { result ≡ le32 (a ∷ b ∷ c ∷ d ∷ []) 0 }
 {
-    (a as u32) + 256 * (b as u32) + 65536 * (c as u32) + 16777216 * (d as u32)
+    u32::from_le_bytes([a, b, c, d])
 }
 
 // A number's two bytes.
 pub fn in_two(n: u16) -> [u8; 2]
     ensures { result ≡ bytes16 n }
 {
-    [(n % 256) as u8, (n / 256) as u8]
+    u16::to_le_bytes(n)
 }
 
 // A number's four bytes.
 pub fn in_four(n: u32) -> [u8; 4]
     ensures { result ≡ bytes32 n }
 {
-    [
-        (n % 256) as u8,
-        (n / 256 % 256) as u8,
-        (n / 65536 % 256) as u8,
-        (n / 16777216) as u8,
-    ]
+    u32::to_le_bytes(n)
 }
 
 // The signed number that two bytes hold.
 pub fn signed(n: u16) -> Kept
     ensures { result.v ≡ signed16 n }
 {
-    let whole = Number::whole(n as u32);
-    if n < 32768 {
-        return whole.keep();
+    Kept {
+        v: i32::from(n.cast_signed()),
     }
-    whole.minus(Number { v: 65536 }).keep()
 }
 
 // The two bytes of a signed number, as a number without a sign.
 pub fn unsigned(n: Kept) -> u16
     ensures { result ≡ unsigned16 n.v }
 {
+    // no cast: of a number below -65536, which two bytes do not hold, the promise says another number than a cast gives
     let turn = Number { v: 65536 };
     let size = n.number().plus(turn).size();
     (size % 65536) as u16
@@ -64,21 +58,14 @@ pub fn unsigned(n: Kept) -> u16
 pub fn signed_word(word: u32) -> Kept
     ensures { result.v ≡ signed32 word }
 {
-    let whole = Number::whole(word);
-    if word < 2147483648 {
-        return whole.keep();
+    Kept {
+        v: word.cast_signed(),
     }
-    let less = whole.minus(Number { v: 4294967296 });
-    let narrow = less.v as i32;
-    Kept { v: narrow }
 }
 
 // The word that holds a signed number, from which it comes back.
 pub fn word_of(n: Kept) -> u32
     ensures { (result ≡ word_of n.v) × (signed32 result ≡ n.v) }
 {
-    let wide = n.v as i64;
-    let whole = Number { v: wide };
-    let size = whole.plus(Number { v: 4294967296 }).size();
-    (size % 4294967296) as u32
+    n.v.cast_unsigned()
 }

@@ -2,19 +2,18 @@
 use mathlib.Core.Path.{◌≡◌, refl, sym, ap, ap₂, ◌∙◌}
 use mathlib.Core.Bool.{Bool, true, false}
 use lib.IntN.{ℤ, ◌+ℤ◌}
+use Rattle.std.specs.Prelude.{Option, Some, None}
 use Rattle.number.specs.Refusal.{refused, given, answer}
 use Rattle.number.specs.declared.Number.{Number}
 use Rattle.quantity.specs.Limits.{inside, wheelhouse}
 use Rattle.quantity.specs.declared.BarometerUnit.{BarometerUnit}
-use Rattle.certificate.specs.declared.Valued.{Valued}
-use Rattle.certificate.specs.declared.Valued.TheVariants.{Value, NoneThere}
 use Rattle.pressure.specs.Pressure.{Barometer, reading_as, in_unit, tenths_in, scale, outside, corrected, to_hectopascals, rounded_once, sea_level, station_pressure, scaled, scaled_as, sea_level_answer, station_answer}
 use Rattle.pressure.specs.declared.BarometerReading.{BarometerReading}
 
 module _ (b : Barometer) (r : ℤ) where
   -- ---- what an answer of the scale correction says
 
-  pub none_there : {x : Valued} → x ≡ NoneThere → scaled_as x ≡ scaled b r → outside b r ≡ true
+  pub none_there : {x : Option Number} → x ≡ None → scaled_as x ≡ scaled b r → outside b r ≡ true
   unfolding scaled answer
   none_there n e = go (outside b r) refl
     where
@@ -26,7 +25,7 @@ module _ (b : Barometer) (r : ℤ) where
     pub there : outside b r ≡ false
     pub is : z ≡ scale b r
 
-  pub worked : {x : Valued} {z : Number} → x ≡ Value z → scaled_as x ≡ scaled b r → Worked z.v
+  pub worked : {x : Option Number} {z : Number} → x ≡ Some z → scaled_as x ≡ scaled b r → Worked z.v
   unfolding scaled answer
   worked {x} {z} n e = go (outside b r) refl
     where

@@ -8,13 +8,13 @@ use lib.IntN.{ℤ, pos, negsuc, neg_ℤ, ◌*ℤ◌}
 use lib.ListN.{get_or, drop, length}
 use lib.Seq.{get_or-take, get_or-drop}
 use borrow.Author.Tests.{lt-ltb}
+use Rattle.std.specs.Prelude.{Option, Some, None}
+use Rattle.number.specs.declared.Number.{Number}
 use Rattle.number.specs.Refusal.{answer}
 use Rattle.number.proofs.Sizes.{impossible}
 use Rattle.cell.specs.Cells.{unbiased}
 use Rattle.certificate.specs.Line.{valued, corner_in, corner_at, valued_as}
 use Rattle.certificate.specs.declared.Corner.{Corner}
-use Rattle.certificate.specs.declared.Valued.{Valued}
-use Rattle.certificate.specs.declared.Valued.TheVariants.{Value, NoneThere}
 use Rattle.certificate.proofs.SameLaws.{same_valued}
 use Rattle.block.specs.Layout.{POINTS}
 use Rattle.block.specs.Words.{points_of, point_in, point_of, certificate_of}
@@ -44,15 +44,15 @@ words_valued s r e =
     ∙ same_valued (corner_at 1 (certificate_of s)) (λ i. corner (point_of s i)) r (points_of s) (λ k h. corner_at_lem s k h)
 
 -- and that is the scale correction, or refusal 12
-pub is_scaled : (b : Barometer) (r : ℤ) (v : Valued) → valued_as v ≡ valued (λ i. corner (b.point i)) b.points r → scaled_as v ≡ scaled b r
+pub is_scaled : (b : Barometer) (r : ℤ) (v : Option Number) → valued_as v ≡ valued (λ i. corner (b.point i)) b.points r → scaled_as v ≡ scaled b r
 unfolding scaled answer outside scale valued
-is_scaled b r (Value n) e = go (outside b r) refl
+is_scaled b r (Some n) e = go (outside b r) refl
   where
-    go : (t : Bool) → outside b r ≡ t → scaled_as (Value n) ≡ scaled b r
+    go : (t : Bool) → outside b r ≡ t → scaled_as (Some n) ≡ scaled b r
     go true o = let e' = rw o at e in impossible (cc)
     go false o = let e' = rw o at e in rw o (cc)
-is_scaled b r NoneThere e = go (outside b r) refl
+is_scaled b r None e = go (outside b r) refl
   where
-    go : (t : Bool) → outside b r ≡ t → scaled_as NoneThere ≡ scaled b r
+    go : (t : Bool) → outside b r ≡ t → scaled_as None ≡ scaled b r
     go true o = rw o refl
     go false o = let e' = rw o at e in impossible (cc)

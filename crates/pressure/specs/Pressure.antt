@@ -1,12 +1,14 @@
 -- Sea level pressure and station pressure (document 01, "Pressure and tendency" and "Humidity"; document 02, W2; 004, section 6).
 -- A reading comes with its unit, as a figure. Without it readings, corrections and temperatures are in tenths, but the height
 -- correction, which is exact, in ten-thousandths.
-use Rattle.std.specs.Prelude.{Bool, true, false, not, ◌||◌, List, [], ◌∷◌, ℕ, ◌-◌, ◌*◌, ℤ, pos, ◌+ℤ◌, ◌*ℤ◌}
+use Rattle.std.specs.Prelude.{Bool, true, false, not, ◌||◌, List, [], ◌∷◌, ℕ, ◌-◌, ◌*◌, ℤ, pos, ◌+ℤ◌, ◌*ℤ◌, Option, Some, None, Result, Ok, Err}
+use Rattle.number.specs.declared.Number.{Number}
 use Rattle.number.specs.Round.{rounded}
 use Rattle.number.specs.Refusal.{Test, Answer, refused, given, answer}
 use Rattle.quantity.specs.Limits.{inside, wheelhouse}
 use Rattle.quantity.specs.Convert.{in_hectopascals}
 use Rattle.quantity.specs.declared.BarometerUnit.{BarometerUnit}
+use Rattle.quantity.specs.declared.Hectopascals as hectopascals
 use Rattle.quantity.specs.declared.BarometerUnit.TheVariants.{Hectopascals, Millimetres}
 use Rattle.message.specs.Receive.{Figure, hPa, mmHg, by_unit, itself, nought}
 use Rattle.settings.specs.Settings.{point_at}
@@ -15,13 +17,11 @@ use Rattle.settings.specs.declared.Point.{Point}
 use Rattle.certificate.specs.Line.{stands, value_from, none_round}
 use Rattle.certificate.specs.Line as line
 use Rattle.certificate.specs.declared.Corner.{Corner}
-use Rattle.certificate.specs.declared.Valued.{Valued}
-use Rattle.certificate.specs.declared.Valued.TheVariants.{Value, NoneThere}
 use Rattle.block.specs.Words.{unit_of, setting_of, points_of, point_of}
 use Rattle.pressure.specs.declared.BarometerReading.{BarometerReading}
 use Rattle.pressure.specs.declared.BarometerReading.TheVariants as reading
-use Rattle.pressure.specs.declared.WorkedPressure.{WorkedPressure}
-use Rattle.pressure.specs.declared.WorkedPressure.TheVariants.{Given, OutsideLimits, OutsideCertificate}
+use Rattle.pressure.specs.declared.PressureRefusal.{PressureRefusal}
+use Rattle.pressure.specs.declared.PressureRefusal.TheVariants.{OutsideLimits, OutsideCertificate}
 
 -- What the corrections of a barometer rest on: five settings, and the certificate's points by their places from 0.
 pub record Barometer : Type 0 where
@@ -162,11 +162,11 @@ station_answer b f =
     (station_pressure b (tenths_in b.unit f))
 
 -- Document 01's number and value of each case.
-abbrev pub scaled_as : Valued → Answer ℕ ℤ
-scaled_as (Value n) = given n.v
-scaled_as NoneThere = refused 12
+abbrev pub scaled_as : Option Number → Answer ℕ ℤ
+scaled_as (Some n) = given n.v
+scaled_as None = refused 12
 
-abbrev pub pressure_as : WorkedPressure → Answer ℕ ℤ
-pressure_as (Given p) = given p.0.v
-pressure_as OutsideLimits = refused 7
-pressure_as OutsideCertificate = refused 12
+abbrev pub pressure_as : Result hectopascals.Hectopascals PressureRefusal → Answer ℕ ℤ
+pressure_as (Ok p) = given p.0.v
+pressure_as (Err OutsideLimits) = refused 7
+pressure_as (Err OutsideCertificate) = refused 12

@@ -8,7 +8,6 @@ ghost use Rattle.number.specs.Whole.{Is};
 ghost use Rattle.pressure.specs.Pressure.{barometer_of, in_unit, temperature, height, corrected, to_hectopascals, rounded_once, tenths_in, reading_as, scaled, scaled_as, sea_level_answer, station_answer, pressure_as};
 
 use block::Store;
-use certificate::Valued;
 use number::Number;
 use quantity::{BarometerUnit, Hectopascals, Millimetres, WheelhouseTemperature};
 use settings::{Height, SeaLevelDifference, TemperatureCoefficient};
@@ -20,10 +19,9 @@ pub enum BarometerReading {
     Millimetres(Millimetres),
 }
 
-// A pressure that was worked from a reading.
+// Why no pressure is worked from a reading.
 #[derive(Clone, Copy)]
-pub enum WorkedPressure {
-    Given(Hectopascals),
+pub enum PressureRefusal {
     // 7: the reading is in another unit than the store's, or the temperature is outside its limits
     OutsideLimits,
     // 12
@@ -31,44 +29,31 @@ pub enum WorkedPressure {
 }
 
 // Whether a reading is in the barometer's unit.
+#[tactic(auto, unfolding(crate::specs::Pressure::in_unit))]
 fn in_unit(unit: BarometerUnit, reading: BarometerReading) -> bool
     ensures { result ≡ in_unit unit (reading_as reading) }
 {
-    match reading {
-        BarometerReading::Hectopascals(_) => match unit {
-            BarometerUnit::Hectopascals => true,
-            BarometerUnit::Millimetres => false,
-        },
-        BarometerReading::Millimetres(_) => match unit {
-            BarometerUnit::Hectopascals => false,
-            BarometerUnit::Millimetres => true,
-        },
+    match (unit, reading) {
+        (BarometerUnit::Hectopascals, BarometerReading::Hectopascals(_)) => true,
+        (BarometerUnit::Millimetres, BarometerReading::Millimetres(_)) => true,
+        _ => false,
     }
 }
 
 // The tenths of a reading in the barometer's unit. Of one in the other unit 0.
+#[tactic(auto, unfolding(crate::specs::Pressure::tenths_in))]
 fn tenths_in(unit: BarometerUnit, reading: BarometerReading) -> Number
     ensures { result.v ≡ tenths_in unit (reading_as reading) }
 {
-    let nothing = Number { v: 0 };
-    match reading {
-        BarometerReading::Hectopascals(p) => match unit {
-            BarometerUnit::Hectopascals => p.0,
-            BarometerUnit::Millimetres => nothing,
-        },
-        BarometerReading::Millimetres(p) => {
-            let kept = p.0;
-            let n = kept.number();
-            match unit {
-                BarometerUnit::Hectopascals => nothing,
-                BarometerUnit::Millimetres => n,
-            }
-        }
+    match (unit, reading) {
+        (BarometerUnit::Hectopascals, BarometerReading::Hectopascals(p)) => p.0,
+        (BarometerUnit::Millimetres, BarometerReading::Millimetres(p)) => p.0.number(),
+        _ => Number { v: 0 },
     }
 }
 
-// The scale correction that the certificate gives. Or refusal 12: the reading lies outside it.
-fn scale_correction(store: &Store, reading: Number) -> Valued
+// The scale correction that the certificate gives; none where the reading lies outside it.
+fn scale_correction(store: &Store, reading: Number) -> Option<Number>
     ensures { scaled_as result ≡ scaled (barometer_of store.now) reading.v }
 {
     certificate::value_at(block::certificate(store), 1, reading)
@@ -78,19 +63,15 @@ fn scale_correction(store: &Store, reading: Number) -> Valued
 fn temperature_correction(k: TemperatureCoefficient, t: WheelhouseTemperature) -> Number
     ensures { result.v ≡ temperature k.0.v t.0.v }
 {
-    let coefficient = k.0;
-    let degrees = t.0;
-    coefficient.number().times(degrees.number()).over(1000)
+    k.0.number().times(t.0.number()).over(1000)
 }
 
 // The height correction, exact: in ten-thousandths of the barometer's unit.
 fn height_correction(unit: BarometerUnit, h: Height, difference: SeaLevelDifference) -> Number
     ensures { Is result.v (height unit h.0.v difference.0.v) (2 ^ 40) }
 {
-    let ship = h.0;
-    let sea = difference.0;
-    let above_sea = ship.number();
-    let above_ocean = sea.number();
+    let above_sea = h.0.number();
+    let above_ocean = difference.0.number();
     let whole = above_sea.plus(above_ocean);
     match unit {
         BarometerUnit::Hectopascals => whole.times(Number { v: 133 }),
@@ -145,41 +126,31 @@ pub fn sea_level_pressure(
     store: &Store,
     reading: BarometerReading,
     wheelhouse: WheelhouseTemperature,
-) -> WorkedPressure
+) -> Result<Hectopascals, PressureRefusal>
     ensures { pressure_as result ≡ sea_level_answer (barometer_of store.now) (reading_as reading) wheelhouse.0.v }
 {
     let unit = block::unit(store);
-    let degrees = wheelhouse.0;
-    if !in_unit(unit, reading) {
-        return WorkedPressure::OutsideLimits;
-    }
-    if !WheelhouseTemperature::holds(degrees.number()) {
-        return WorkedPressure::OutsideLimits;
+    if !in_unit(unit, reading) || !WheelhouseTemperature::holds(wheelhouse.0.number()) {
+        return Err(PressureRefusal::OutsideLimits);
     }
     let tenths = tenths_in(unit, reading);
-    match scale_correction(store, tenths) {
-        Valued::NoneThere => WorkedPressure::OutsideCertificate,
-        Valued::Value(scale) => {
-            let all = corrected(store, tenths, scale, wheelhouse);
-            WorkedPressure::Given(rounded_once(unit, all))
-        }
-    }
+    let scale = scale_correction(store, tenths).ok_or(PressureRefusal::OutsideCertificate)?;
+    let all = corrected(store, tenths, scale, wheelhouse);
+    Ok(rounded_once(unit, all))
 }
 
 // The pressure at the station, for humidity: the reading plus its scale correction, in hPa. Or refusal 7 or 12 likewise.
-pub fn station_pressure(store: &Store, reading: BarometerReading) -> WorkedPressure
+pub fn station_pressure(
+    store: &Store,
+    reading: BarometerReading,
+) -> Result<Hectopascals, PressureRefusal>
     ensures { pressure_as result ≡ station_answer (barometer_of store.now) (reading_as reading) }
 {
     let unit = block::unit(store);
     if !in_unit(unit, reading) {
-        return WorkedPressure::OutsideLimits;
+        return Err(PressureRefusal::OutsideLimits);
     }
     let tenths = tenths_in(unit, reading);
-    match scale_correction(store, tenths) {
-        Valued::NoneThere => WorkedPressure::OutsideCertificate,
-        Valued::Value(scale) => {
-            let sum = tenths.plus(scale);
-            WorkedPressure::Given(in_hectopascals(unit, sum))
-        }
-    }
+    let scale = scale_correction(store, tenths).ok_or(PressureRefusal::OutsideCertificate)?;
+    Ok(in_hectopascals(unit, tenths.plus(scale)))
 }

@@ -1,5 +1,5 @@
 -- Each public contract of this crate allows a single answer. Assumes nothing.
-use mathlib.Core.Path.{◌≡◌, sym, ap, ◌∙◌}
+use mathlib.Core.Path.{sym, ap, ◌∙◌}
 use Prim.Native.Nat.{ℕ}
 use Rattle.number.specs.Single.{Single}
 use Rattle.number.specs.declared.Number.{Number}

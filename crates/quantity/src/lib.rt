@@ -61,6 +61,7 @@ pub struct Degrees(pub u32);
 #[derive(Clone, Copy)]
 pub struct Minute(pub u32);
 
+// Each quantity has a `holds` of its own: a trait of quantities is no plainer, since its impl says each limit three times.
 impl BarometerUnit {
     // Whether n is a barometer's reading in tenths of this unit.
     pub fn holds(self, n: Number) -> bool
@@ -186,17 +187,16 @@ impl BulbState {
         n <= Self::HIGH
     }
 
+    // (No `TryFrom`: every number has a state, so none is refused.)
     // The state of a number; unknown where that is none.
     pub fn numbered(n: u32) -> BulbState
         ensures { result ≡ state_of n }
     {
-        if n == 0 {
-            return BulbState::Water;
+        match n {
+            0 => BulbState::Water,
+            1 => BulbState::Ice,
+            _ => BulbState::Unknown,
         }
-        if n == 1 {
-            return BulbState::Ice;
-        }
-        BulbState::Unknown
     }
 
     // Its number.
@@ -236,7 +236,7 @@ impl MetresPerSecond {
     pub fn parts(self) -> SpeedParts
         ensures { result.0 ≡ parts_of_metres self.0 }
     {
-        SpeedParts(1250 * (self.0 as u64))
+        SpeedParts(1250 * u64::from(self.0))
     }
 }
 
@@ -256,7 +256,7 @@ impl Knots {
     pub fn parts(self) -> SpeedParts
         ensures { result.0 ≡ parts_of_knots self.0 }
     {
-        SpeedParts(643 * (self.0 as u64))
+        SpeedParts(643 * u64::from(self.0))
     }
 }
 

@@ -13,9 +13,9 @@ use Rattle.watchfile.specs.Fields.{Field, field_tests, placed}
 use Rattle.watchfile.specs.Format.{rows_fields, body_fields, bodies_fields, records_from}
 use Rattle.watchfile.specs.declared.Record.{Record}
 use Rattle.watchfile.proofs.FieldLaws.{wrong, right, none, Passed, given_passed, placed_refused, placed_given, place_within}
-use Rattle.reader.specs.Work.{found, body_as, BodyHas}
-use Rattle.reader.specs.declared.BodyTested.{BodyTested}
-use Rattle.reader.specs.declared.BodyTested.TheVariants.{Right, Wrong}
+use Rattle.std.specs.Prelude.{Result, Ok, Err}
+use Rattle.reader.specs.Work.{found, found_as, BodyHas}
+use Rattle.reader.specs.declared.Broken.{Broken}
 use Rattle.reader.proofs.ContentsLaws.{part, part_all, found_part}
 use Rattle.reader.proofs.SizeLaws.{body_whole, body_ordered}
 
@@ -36,10 +36,10 @@ row_right l s n m row end before e p =
 -- ---- a body
 
 -- what is found of a body of a kind
-abbrev pub BodyAt : (ℕ → ℤ) → List ℕ → ℕ → BodyTested → Type 0
+abbrev pub BodyAt : (ℕ → ℤ) → List ℕ → ℕ → Result (Unit {0}) Broken → Type 0
 BodyAt rule s kind q = BodyHas (body_fields rule kind s) s q
 
-module _ (rule : ℕ → ℤ) (s : List ℕ) (all : List Record) (n m row at : ℕ) (some : n ≡ suc m) (inside : at ≤ length s) (q : BodyTested) where
+module _ (rule : ℕ → ℤ) (s : List ℕ) (all : List Record) (n m row at : ℕ) (some : n ≡ suc m) (inside : at ≤ length s) (q : Result (Unit {0}) Broken) where
   body : List ℕ
   body = drop at s
 
@@ -51,28 +51,29 @@ module _ (rule : ℕ → ℤ) (s : List ℕ) (all : List Record) (n m row at : �
   first = rw some
 
   at_body : BodyAt rule (part s at) (kind_at s row) q
-      → body_as q ≡ answer (field_tests (length s - at) (body_fields rule (kind_at s row) body)) tt
+      → found_as q ≡ answer (field_tests (length s - at) (body_fields rule (kind_at s row) body)) tt
   unfolding body
   at_body h =
       subst (λ (p : List ℕ). BodyAt rule p (kind_at s row) q) (part_all s at) h
       ∙ found_part s at (body_fields rule (kind_at s row) (drop at s)) tt
 
-  pub body_stop : (k : ℕ) → BodyAt rule (part s at) (kind_at s row) q → q ≡ Wrong k
-      → (found s (bodies_fields rule s n row at) all ≡ refused (at + k)) × (at + k ≤ length s)
+  pub body_stop : (b : Broken) → BodyAt rule (part s at) (kind_at s row) q → q ≡ Err b
+      → (found s (bodies_fields rule s n row at) all ≡ refused (at + b.0)) × (at + b.0 ≤ length s)
   unfolding body
-  body_stop k h is =
+  body_stop b h is =
+      let k = b.0 in
       let fs = body_fields rule (kind_at s row) body in
-      let wrong = sym (at_body h) ∙ ap body_as is in
+      let wrong = sym (at_body h) ∙ ap found_as is in
       let within = place_within (length s - at) fs tt k (body_ordered rule body (kind_at s row)) wrong in
       (rw first (placed_refused (length s) at fs behind tt all inside k wrong), omega arith)
 
-  pub body_on : BodyAt rule (part s at) (kind_at s row) q → q ≡ Right
+  pub body_on : BodyAt rule (part s at) (kind_at s row) q → q ≡ Ok tt
       → (found s (bodies_fields rule s n row at) all ≡ found s (bodies_fields rule s m (row + 8) (at + size_of (kind_at s row))) all)
       × (at + size_of (kind_at s row) ≤ length s)
   unfolding body behind
   body_on h is =
       let fs = body_fields rule (kind_at s row) body in
-      let good = sym (at_body h) ∙ ap body_as is in
+      let good = sym (at_body h) ∙ ap found_as is in
       let whole = body_whole rule body (length s - at) (kind_at s row) (given_passed (length s - at) fs tt tt good) in
       (rw first (placed_given (length s) at fs behind tt all inside tt good), omega arith)
 

@@ -12,10 +12,10 @@ use Rattle.watchfile.specs.Rules.{size_of, rank}
 use Rattle.watchfile.specs.Fields.{Field, field_tests, placed}
 use Rattle.watchfile.specs.Format.{row_fields, rows_fields}
 use Rattle.watchfile.proofs.FieldLaws.{none, Passed, given_passed, placed_refused, placed_given, Ordered, place_within}
-use Rattle.reader.specs.Work.{found, row_of, row_as, RowFound}
+use Rattle.std.specs.Prelude.{Result, Ok, Err}
+use Rattle.reader.specs.Work.{found, found_as, row_of, RowFound}
 use Rattle.reader.specs.declared.Row.{Row}
-use Rattle.reader.specs.declared.RowRead.{RowRead}
-use Rattle.reader.specs.declared.RowRead.TheVariants.{Good, Broken}
+use Rattle.reader.specs.declared.Broken.{Broken}
 
 -- ---- the part of a file from a place on, as the code takes it
 
@@ -37,7 +37,7 @@ found_part s at fs a = ap (λ (n : ℕ). answer (field_tests n fs) a) (length-dr
 row_ordered : (p : List ℕ) (next before : ℕ) → Ordered (row_fields p next before)
 row_ordered p next before = (omega arith, (omega arith, (omega arith, (omega arith, tt))))
 
-module _ (s : List ℕ) (count n m at next before : ℕ) (some : n ≡ suc m) (inside : at ≤ length s) (q : RowRead) where
+module _ (s : List ℕ) (count n m at next before : ℕ) (some : n ≡ suc m) (inside : at ≤ length s) (q : Result Row Broken) where
   row : List ℕ
   row = drop at s
 
@@ -49,28 +49,29 @@ module _ (s : List ℕ) (count n m at next before : ℕ) (some : n ≡ suc m) (i
   unfolding row behind rows_fields
   first = rw some
 
-  at_row : RowFound next before (part s at) q → row_as q ≡ answer (field_tests (length s - at) (row_fields row next before)) (row_of row)
+  at_row : RowFound next before (part s at) q → found_as q ≡ answer (field_tests (length s - at) (row_fields row next before)) (row_of row)
   unfolding row
   at_row h =
       subst (λ (p : List ℕ). RowFound next before p q) (part_all s at) h
       ∙ found_part s at (row_fields (drop at s) next before) (row_of (drop at s))
 
-  pub row_stop : (k : ℕ) → RowFound next before (part s at) q → q ≡ Broken k
-      → (found s (rows_fields s n at next before) count ≡ refused (at + k)) × (at + k ≤ length s)
+  pub row_stop : (b : Broken) → RowFound next before (part s at) q → q ≡ Err b
+      → (found s (rows_fields s n at next before) count ≡ refused (at + b.0)) × (at + b.0 ≤ length s)
   unfolding row
-  row_stop k h is =
+  row_stop b h is =
+      let k = b.0 in
       let fs = row_fields row next before in
-      let wrong = sym (at_row h) ∙ ap row_as is in
+      let wrong = sym (at_row h) ∙ ap found_as is in
       let within = place_within (length s - at) fs (row_of row) k (row_ordered row next before) wrong in
       (rw first (placed_refused (length s) at fs behind (row_of row) count inside k wrong), omega arith)
 
-  pub row_on : (r : Row) → RowFound next before (part s at) q → q ≡ Good r
+  pub row_on : (r : Row) → RowFound next before (part s at) q → q ≡ Ok r
       → (found s (rows_fields s n at next before) count ≡ found s (rows_fields s m (at + 8) (next + size_of r.kind) (rank r.minute r.kind)) count)
       × (at + 8 ≤ length s)
   unfolding row behind
   row_on r h is =
       let fs = row_fields row next before in
-      let good = sym (at_row h) ∙ ap row_as is in
+      let good = sym (at_row h) ∙ ap found_as is in
       let whole = (given_passed (length s - at) fs (row_of row) r good).2.2.2.0 in
       let same : row_of row ≡ r = given_is (field_tests (length s - at) fs) (row_of row) r good in (
         rw first (placed_given (length s) at fs behind (row_of row) count inside r good)

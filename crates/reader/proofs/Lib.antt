@@ -1,4 +1,4 @@
-pub mod RowLaws
+pub mod TestedLaws
 pub mod HeadLaws
 pub mod ContentsLaws
 pub mod SizeLaws

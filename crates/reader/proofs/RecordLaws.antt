@@ -9,7 +9,7 @@ use lib.Dec.{ltb, leb}
 use lib.IntN.{ℤ}
 use lib.ListN.{length, get_or, drop, get_or-eq_default}
 use borrow.Author.Tests.{le-leb, lt-leb, lt-ltb, le-ltb, leb-true, eqb-true}
-use Rattle.number.specs.Refusal.{Answer, refused, given}
+use Rattle.number.specs.Refusal.{given}
 use Rattle.number.proofs.RefusalLaws.{given_is}
 use Rattle.number.proofs.Sizes.{impossible}
 use Rattle.octets.specs.Bytes.{le16, le32}
@@ -24,24 +24,28 @@ use Rattle.reader.specs.Read.{row_at, kind_at, offset_at, is_there, record_in, r
 use Rattle.reader.specs.Work.{row_of, place_of}
 use Rattle.reader.specs.declared.Row.{Row}
 use Rattle.reader.specs.declared.Place.{Place}
-use Rattle.reader.specs.declared.Place.TheVariants.{At, Nowhere}
+use Rattle.std.specs.Prelude.{Option, Some, None}
 use Rattle.reader.proofs.ContentsLaws.{part, part_all}
 use Rattle.reader.proofs.SizeLaws.{body_whole, size_least}
 use Rattle.reader.proofs.BodiesLaws.{length_records}
 
 -- ---- where a record stands, test by test
 
+-- a place, found
+abbrev pub At : Row → ℕ → Option Place
+At row at = Some (record { row = row; at = at })
+
 module _ (s : List ℕ) (i : ℕ) where
   -- a file too short for a count counts nothing
-  pub few : length s < 4 → Nowhere ≡ place_of s i
+  pub few : length s < 4 → None ≡ place_of s i
   few h =
       let none : count_of s ≡ 0 = get_or-eq_default s 0 (omega arith) in
       rw (none, le-ltb i 0 (omega arith))
 
-  pub not_counted : count_of s ≤ i → Nowhere ≡ place_of s i
+  pub not_counted : count_of s ≤ i → None ≡ place_of s i
   not_counted h = rw (le-ltb i (count_of s) h)
 
-  pub row_cut : i < count_of s → length s < start_of i + 8 → Nowhere ≡ place_of s i
+  pub row_cut : i < count_of s → length s < start_of i + 8 → None ≡ place_of s i
   row_cut c h = rw (lt-ltb i (count_of s) c, lt-leb (start_of i + 8) (length s) h)
 
   -- the row, as the code takes it
@@ -51,13 +55,13 @@ module _ (s : List ℕ) (i : ℕ) where
   row_is : row ≡ row_at s i
   row_is = part_all s (start_of i)
 
-  pub no_kind : i < count_of s → start_of i + 8 ≤ length s → kind_right (get_or row 0 0) ≡ false → Nowhere ≡ place_of s i
+  pub no_kind : i < count_of s → start_of i + 8 ≤ length s → kind_right (get_or row 0 0) ≡ false → None ≡ place_of s i
   no_kind c w h =
       let k = ap (λ (p : List ℕ). kind_right (get_or p 0 0)) (sym row_is) ∙ h in
       rw (lt-ltb i (count_of s) c, le-leb (start_of i + 8) (length s) w, k)
 
   pub body_cut : i < count_of s → start_of i + 8 ≤ length s → kind_right (get_or row 0 0) ≡ true
-      → length s < le16 row 2 + size_of (get_or row 0 0) → Nowhere ≡ place_of s i
+      → length s < le16 row 2 + size_of (get_or row 0 0) → None ≡ place_of s i
   body_cut c w k h =
       let k' = ap (λ (p : List ℕ). kind_right (get_or p 0 0)) (sym row_is) ∙ k in
       let end = ap (λ (p : List ℕ). leb (le16 p 2 + size_of (get_or p 0 0)) (length s)) (sym row_is) ∙ lt-leb (le16 row 2 + size_of (get_or row 0 0)) (length s) h in
@@ -78,25 +82,27 @@ module _ (s : List ℕ) (i : ℕ) where
   all_true true false c d h = impossible cc
   all_true false b c d h = impossible cc
 
-  nowhere_by : (b : Bool) (row : Row) (at : ℕ) (r : Figures) → cond b (At row at) Nowhere ≡ Nowhere → nothing ≡ cond b r nothing
+  nowhere_by : (b : Bool) (row : Row) (at : ℕ) (r : Figures) → cond b (At row at) None ≡ None → nothing ≡ cond b r nothing
   nowhere_by true row at r h = cc
   nowhere_by false row at r h = refl
 
-  pub nowhere_is : (p : Place) → p ≡ place_of s i → p ≡ Nowhere → nothing ≡ record_at s i
+  pub nowhere_is : (p : Option Place) → p ≡ place_of s i → p ≡ None → nothing ≡ record_at s i
   nowhere_is p e n = nowhere_by (is_there s i) (row_of (row_at s i)) (offset_at s i) (figures_of (record_in s i)) (sym e ∙ n)
 
-  at_by : (b : Bool) (row row' : Row) (at at' : ℕ) → cond b (At row at) Nowhere ≡ At row' at' → (b ≡ true) × (row ≡ row') × (at ≡ at')
-  at_by true row row' at at' h = (refl, cc, cc)
-  at_by false row row' at at' h = impossible (cc)
+  at_by : (b : Bool) (row : Row) (at : ℕ) (p : Place) → cond b (At row at) None ≡ Some p → (b ≡ true) × (row ≡ p.row) × (at ≡ p.at)
+  at_by true row at p h =
+      let e : ◌≡◌ {A = Place} (record { row = row; at = at }) p = cc in
+      (refl, ap (λ (x : Place). x.row) e, ap (λ (x : Place). x.at) e)
+  at_by false row at p h = impossible (cc)
 
-  pub at_is : (p : Place) (row : Row) (at : ℕ) → p ≡ place_of s i → p ≡ At row at
-      → (at ≡ offset_at s i) × (row ≡ row_of (row_at s i)) × (at + size_of row.kind ≤ length s) × (record_at s i ≡ figures_of (record_in s i))
-      × (kind_right row.kind ≡ true)
-  at_is p row at e is =
-      let f = at_by (is_there s i) (row_of (row_at s i)) row (offset_at s i) at (sym e ∙ is) in
+  pub at_is : (r : Option Place) (p : Place) → r ≡ place_of s i → r ≡ Some p
+      → (p.at ≡ offset_at s i) × (p.row ≡ row_of (row_at s i)) × (p.at + size_of p.row.kind ≤ length s) × (record_at s i ≡ figures_of (record_in s i))
+      × (kind_right p.row.kind ≡ true)
+  at_is r p e is =
+      let f = at_by (is_there s i) (row_of (row_at s i)) (offset_at s i) p (sym e ∙ is) in
       let t = all_true (ltb i (count_of s)) (leb (start_of i + 8) (length s)) (kind_right (kind_at s i)) (leb (offset_at s i + size_of (kind_at s i)) (length s)) f.0 in
       let w = leb-true (offset_at s i + size_of (kind_at s i)) (length s) t.1 in
-      let k : row.kind ≡ kind_at s i = ap (λ (r : Row). r.kind) (sym f.1) in
+      let k : p.row.kind ≡ kind_at s i = ap (λ (x : Row). x.kind) (sym f.1) in
       (sym f.2, sym f.1, omega (arith, w, f.2, ap size_of k), rw f.0, ap kind_right k ∙ t.0)
 
 -- ---- the records of a good file

@@ -13,7 +13,8 @@ use Rattle.watchfile.specs.Fields.{field_tests}
 use Rattle.watchfile.specs.Format.{fields, records, reading, broken_at, file_test, file_tests}
 use Rattle.watchfile.specs.declared.Record.{Record}
 use Rattle.reader.specs.Read.{verdict_as, counted}
-use Rattle.reader.specs.declared.Verdict.{Verdict}
+use Rattle.std.specs.Prelude.{Result}
+use Rattle.reader.specs.declared.Broken.{Broken}
 
 -- the tests of a file in their order, each with its place
 abbrev pub tests : (ℕ → ℤ) → List ℕ → List (Test ℕ)
@@ -39,7 +40,7 @@ unfolding answer
 tests_counted [] rs = refl
 tests_counted (t ∷ ts) rs = one_counted t.holds t.refusal (answer ts rs) _ (tests_counted ts rs)
 
-pub read_refused : (rule : ℕ → ℤ) (s : List ℕ) (r : Verdict) → verdict_as r ≡ counted (reading rule s) → (n : Numbered) →
+pub read_refused : (rule : ℕ → ℤ) (s : List ℕ) (r : Result ℕ Broken) → verdict_as r ≡ counted (reading rule s) → (n : Numbered) →
     (verdict_as r ≡ refused n) ↔ First (file_tests rule s) n
 unfolding reading
 read_refused rule s r h n =

@@ -5,7 +5,7 @@ use mathlib.Core.List.{List}
 use Prim.Native.Nat.{ℕ, ◌≤◌, ◌<◌}
 use native.Mathlib.Omega.{arith}
 use lib.Dec.{eqb, leb, lit≤}
-use lib.IntN.{ℤ, pos}
+use lib.IntN.{ℤ}
 use borrow.Author.Tests.{ne_eqb, eqb-true, eqb-false, leb-true}
 use Rattle.number.proofs.Sizes.{either_way, and_true}
 use Rattle.watchfile.specs.Rules.{kind_right, size_of}

@@ -1,18 +1,17 @@
 -- What reading a watch file answers (document 01, "Watch file" and refusal 18): whether it is good, and each of its records.
-use Rattle.std.specs.Prelude.{Bool, ◌&&◌, cond, List, ℕ, ◌+◌, ltb, leb, length, get_or, drop}
+use Rattle.std.specs.Prelude.{Bool, ◌&&◌, cond, List, ℕ, ◌+◌, ltb, leb, length, get_or, drop, Result, Ok, Err}
 use Rattle.number.specs.Refusal.{Answer, refused, given, Numbered}
 use Rattle.octets.specs.Bytes.{le16, le32}
 use Rattle.watchfile.specs.Rules.{kind_right, size_of}
 use Rattle.watchfile.specs.Format.{broken_at, count_of, start_of, body_of, figures_of, nothing}
 use Rattle.watchfile.specs.declared.Record.{Record}
 use Rattle.watchfile.specs.declared.Figures.{Figures}
-use Rattle.reader.specs.declared.Verdict.{Verdict}
-use Rattle.reader.specs.declared.Verdict.TheVariants.{Good, Broken}
+use Rattle.reader.specs.declared.Broken.{Broken}
 
 -- Document 01's number of each case, and what it also returns.
-abbrev pub verdict_as : Verdict → Answer Numbered ℕ
-verdict_as (Good n) = given n
-verdict_as (Broken place) = refused (broken_at place)
+abbrev pub verdict_as : Result ℕ Broken → Answer Numbered ℕ
+verdict_as (Ok n) = given n
+verdict_as (Err b) = refused (broken_at b.0)
 
 -- A good file is answered with the number of its records, a broken one with 18 and the place.
 abbrev pub counted : Answer ℕ (List Record) → Answer Numbered ℕ

@@ -3,7 +3,7 @@
 use mathlib.Core.Path.{◌≡◌}
 use mathlib.Core.Logic.{◌↔◌}
 use Prim.Native.Nat.{ℕ}
-use Rattle.number.specs.Refusal.{Answer, refused, given, Holds, NoneBelow}
+use Rattle.number.specs.Refusal.{refused, given, Holds, NoneBelow}
 use Rattle.number.proofs.RefusalLaws.{in_number_order, given_exactly}
 use Rattle.settings.specs.Settings.{tests, checked}
 use Rattle.settings.specs.declared.Settings.{Settings}

@@ -3,11 +3,12 @@ use mathlib.Core.Path.{◌≡◌, refl, sym, ap, ◌∙◌}
 use mathlib.Core.Bool.{cond}
 use Prim.Native.Nat.{ℕ}
 use lib.Dec.{eqb}
+use Rattle.std.specs.Prelude.{Result, Ok, Err}
 use Rattle.number.specs.Single.{Single}
 use Rattle.number.specs.Refusal.{Answer, refused, given}
 use Rattle.settings.specs.Settings.{checked_as}
-use Rattle.settings.specs.declared.Checked.{Checked}
-use Rattle.settings.specs.declared.Checked.TheVariants.{Good, OutsideLimits, CertificateBroken, AnemometerBroken}
+use Rattle.settings.specs.declared.SettingsRefusal.{SettingsRefusal}
+use Rattle.settings.specs.declared.SettingsRefusal.TheVariants.{OutsideLimits, CertificateBroken, AnemometerBroken}
 use Rattle.settings.proofs.number.Reads as number
 use Rattle.settings.proofs.Height.holds.Reads as height
 use Rattle.settings.proofs.SeaLevelDifference.holds.Reads as difference
@@ -38,16 +39,16 @@ single_correction κs a r r' s s' p q = p ∙ sym q
 pub single_rate : Single rate.Post
 single_rate κs a r r' s s' p q = p ∙ sym q
 
-pub case_of : Answer ℕ (Unit {0}) → Checked
-case_of (refused n) = cond (eqb n 9) OutsideLimits (cond (eqb n 10) CertificateBroken AnemometerBroken)
-case_of (given a) = Good
+pub case_of : Answer ℕ (Unit {0}) → Result (Unit {0}) SettingsRefusal
+case_of (refused n) = Err (cond (eqb n 9) OutsideLimits (cond (eqb n 10) CertificateBroken AnemometerBroken))
+case_of (given a) = Ok a
 
-pub case_back : (c : Checked) → case_of (checked_as c) ≡ c
+pub case_back : (c : Result (Unit {0}) SettingsRefusal) → case_of (checked_as c) ≡ c
 unfolding case_of
-case_back Good = refl
-case_back OutsideLimits = refl
-case_back CertificateBroken = refl
-case_back AnemometerBroken = refl
+case_back (Ok a) = refl
+case_back (Err OutsideLimits) = refl
+case_back (Err CertificateBroken) = refl
+case_back (Err AnemometerBroken) = refl
 
 pub single_check : Single check.Post
 single_check κs a r r' s s' p q = sym (case_back r) ∙ ap case_of (p ∙ sym q) ∙ case_back r'

@@ -1,5 +1,5 @@
 -- The limits of the settings (document 01, "Settings"; document 02, W5), and refusals 9, 10 and 25.
-use Rattle.std.specs.Prelude.{◌≡◌, Bool, true, not, ◌&&◌, ◌||◌, List, [], ◌∷◌, ℕ, zero, suc, ◌+◌, ◌-◌, ◌<◌, eqb, leb, ℤ, pos, neg_ℤ, get_or}
+use Rattle.std.specs.Prelude.{◌≡◌, Bool, true, not, ◌&&◌, ◌||◌, List, [], ◌∷◌, ℕ, zero, suc, ◌+◌, ◌-◌, ◌<◌, eqb, leb, ℤ, pos, neg_ℤ, get_or, Result, Ok, Err}
 use Rattle.std.specs.Int.Signed.{le_z}
 use Rattle.number.specs.Refusal.{Test, Answer, refused, given, answer}
 use Rattle.quantity.specs.Limits.{Limits, inside, pressure_limits, metres_per_second}
@@ -7,8 +7,8 @@ use Rattle.quantity.specs.declared.BarometerUnit.{BarometerUnit}
 use Rattle.settings.specs.declared.Point.{Point}
 use Rattle.settings.specs.declared.RatePoint.{RatePoint}
 use Rattle.settings.specs.declared.Settings.{Settings}
-use Rattle.settings.specs.declared.Checked.{Checked}
-use Rattle.settings.specs.declared.Checked.TheVariants.{Good, OutsideLimits, CertificateBroken, AnemometerBroken}
+use Rattle.settings.specs.declared.SettingsRefusal.{SettingsRefusal}
+use Rattle.settings.specs.declared.SettingsRefusal.TheVariants.{OutsideLimits, CertificateBroken, AnemometerBroken}
 
 -- "height H 0 to 60.0 m"
 abbrev pub height : Limits
@@ -103,11 +103,11 @@ unfoldable pub checked : Settings → Answer ℕ (Unit {0})
 checked s = answer (tests s) tt
 
 -- Document 01's number of each case.
-abbrev pub checked_as : Checked → Answer ℕ (Unit {0})
-checked_as Good = given tt
-checked_as OutsideLimits = refused 9
-checked_as CertificateBroken = refused 10
-checked_as AnemometerBroken = refused 25
+abbrev pub checked_as : Result (Unit {0}) SettingsRefusal → Answer ℕ (Unit {0})
+checked_as (Ok a) = given a
+checked_as (Err OutsideLimits) = refused 9
+checked_as (Err CertificateBroken) = refused 10
+checked_as (Err AnemometerBroken) = refused 25
 
 -- ---- "the same settings"
 

@@ -4,7 +4,7 @@
 ghost use Rattle.std.specs.Prelude.{◌≡◌, Bool, true, false, ◌&&◌, ℕ, ◌+◌, ◌-◌, ◌≤◌, ◌<◌, get_or};
 ghost use Rattle.number.specs.Refusal.{number_in};
 ghost use Rattle.quantity.specs.Limits.{inside};
-ghost use Rattle.settings.specs.Settings.{height, difference, coefficient, psychrometer, correction, every, point_at, point_holds, rises, certificate_holds, rate, rate_point_at, rate_point_holds, rates_rise, anemometer_holds, others_hold, checked, checked_as};
+ghost use Rattle.settings.specs.Settings.{height, difference, coefficient, psychrometer, correction, point_holds, rises, certificate_holds, rate, rate_point_holds, rates_rise, anemometer_holds, others_hold, checked, checked_as};
 
 use number::{Kept, Number};
 use quantity::{BarometerUnit, MetresPerSecond};
@@ -61,6 +61,7 @@ pub struct RatePoint {
     pub speed: Kept,
 }
 
+// (A count stands beside an array here and in `Settings`: C hands them over so, and there is no heap.)
 // The hand anemometer: of the points the first `count` are its certificate. With none the store has no anemometer.
 #[repr(C)]
 #[derive(Clone, Copy)]
@@ -82,11 +83,9 @@ pub struct Settings {
     pub anemometer: Anemometer,
 }
 
-// What settings come to.
+// The first of refusals 9, 10 and 25 that holds of settings.
 #[derive(Clone, Copy)]
-pub enum Checked {
-    // They are within their limits.
-    Good,
+pub enum SettingsRefusal {
     // 9
     OutsideLimits,
     // 10
@@ -96,14 +95,14 @@ pub enum Checked {
 }
 
 // Document 01's number of what settings come to, or 0 for good ones.
-pub fn number(c: Checked) -> u32
-    ensures { result ≡ number_in (checked_as c) }
+pub fn number(checked: Result<(), SettingsRefusal>) -> u32
+    ensures { result ≡ number_in (checked_as checked) }
 {
-    match c {
-        Checked::Good => 0,
-        Checked::OutsideLimits => 9,
-        Checked::CertificateBroken => 10,
-        Checked::AnemometerBroken => 25,
+    match checked {
+        Ok(()) => 0,
+        Err(SettingsRefusal::OutsideLimits) => 9,
+        Err(SettingsRefusal::CertificateBroken) => 10,
+        Err(SettingsRefusal::AnemometerBroken) => 25,
     }
 }
 
@@ -187,193 +186,108 @@ impl Rate {
 
 // ---- the barometer's certificate
 
+impl Point {
+    // What stands behind the last point.
+    pub const NOWHERE: Point = Point {
+        reading: Kept { v: 0 },
+        correction: Correction(Kept { v: 0 }),
+    };
+}
+
 fn point_holds(unit: BarometerUnit, p: Point) -> bool
     ensures { result ≡ point_holds unit p }
 {
-    let reading = p.reading;
-    let correction = p.correction;
-    let by = correction.0;
-    if unit.holds(reading.number()) {
-        return Correction::holds(by.number());
-    }
-    false
+    unit.holds(p.reading.number()) && Correction::holds(p.correction.0.number())
 }
 
 fn rises(p: Point, q: Point) -> bool
     ensures { result ≡ rises p q }
 {
-    let a = p.reading;
-    let b = q.reading;
-    !b.number().at_most(a.number())
+    p.reading < q.reading
 }
 
-// Whether each of the first n points lies within its limits.
-fn points_hold(unit: BarometerUnit, points: [Point; POINTS], n: usize) -> bool
-    requires { n ≤ 16 }
-    ensures { result ≡ every (λ i. point_holds unit (point_at points i)) 0 n }
-{
-    let mut i: usize = 0;
-    while i < n {
-        let p = points[i];
-        if !point_holds(unit, p) {
-            return false;
-        }
-        i += 1;
-    }
-    true
-}
-
-// Whether each of the first n points but the last has a lower reading than the next.
-fn points_rise(points: [Point; POINTS], n: usize) -> bool
-    requires { n ≤ 16 }
-    ensures { result ≡ every (λ i. rises (point_at points i) (point_at points (i + 1))) 0 (n - 1) }
-{
-    let mut i: usize = 0;
-    while i + 1 < n {
-        let j = i + 1;
-        let p = points[i];
-        let q = points[j];
-        if !rises(p, q) {
-            return false;
-        }
-        i += 1;
-    }
-    true
-}
-
+#[tactic(auto, unfolding(crate::specs::Settings::certificate_holds))]
 fn certificate_holds(unit: BarometerUnit, count: u32, points: [Point; POINTS]) -> bool
     ensures { result ≡ certificate_holds unit count points }
 {
-    if count < 2 {
-        return false;
-    }
-    if count > 16 {
-        return false;
-    }
     let n = count as usize;
-    if points_hold(unit, points, n) {
-        return points_rise(points, n);
+    if n < 2 || n > POINTS {
+        return false;
     }
-    false
+    let certificate = &points[..n];
+    certificate.iter().all(|p| point_holds(unit, *p))
+        && certificate.is_sorted_by(|p, q| rises(*p, *q))
 }
 
 // ---- the anemometer's
 
+impl RatePoint {
+    // What stands behind the last point.
+    pub const NONE: RatePoint = RatePoint {
+        rate: Rate(Kept { v: 0 }),
+        speed: Kept { v: 0 },
+    };
+}
+
 fn rate_point_holds(p: RatePoint) -> bool
     ensures { result ≡ rate_point_holds p }
 {
-    let rate = p.rate.0;
-    let speed = p.speed;
-    if Rate::holds(rate.number()) {
-        return MetresPerSecond::holds(speed.number());
-    }
-    false
+    Rate::holds(p.rate.0.number()) && MetresPerSecond::holds(p.speed.number())
 }
 
 // Whether both rate and speed rise from one point to the next.
 fn rates_rise(p: RatePoint, q: RatePoint) -> bool
     ensures { result ≡ rates_rise p q }
 {
-    let a = p.rate.0;
-    let b = q.rate.0;
-    if b.number().at_most(a.number()) {
-        return false;
-    }
-    let v = p.speed;
-    let w = q.speed;
-    !w.number().at_most(v.number())
+    p.rate.0 < q.rate.0 && p.speed < q.speed
 }
 
-// Whether each of the first n points lies within its limits.
-fn rate_points_hold(points: [RatePoint; RATES], n: usize) -> bool
-    requires { n ≤ 20 }
-    ensures { result ≡ every (λ i. rate_point_holds (rate_point_at points i)) 0 n }
-{
-    let mut i: usize = 0;
-    while i < n {
-        let p = points[i];
-        if !rate_point_holds(p) {
-            return false;
-        }
-        i += 1;
-    }
-    true
-}
-
-// Whether the first n points rise.
-fn rate_points_rise(points: [RatePoint; RATES], n: usize) -> bool
-    requires { n ≤ 20 }
-    ensures { result ≡ every (λ i. rates_rise (rate_point_at points i) (rate_point_at points (i + 1))) 0 (n - 1) }
-{
-    let mut i: usize = 0;
-    while i + 1 < n {
-        let j = i + 1;
-        let p = points[i];
-        let q = points[j];
-        if !rates_rise(p, q) {
-            return false;
-        }
-        i += 1;
-    }
-    true
-}
-
+#[tactic(auto, unfolding(crate::specs::Settings::anemometer_holds))]
 fn anemometer_holds(count: u32, points: [RatePoint; RATES]) -> bool
     ensures { result ≡ anemometer_holds count points }
 {
-    if count == 0 {
+    let n = count as usize;
+    if n == 0 {
         return true;
     }
-    if count < 2 {
+    if n < 2 || n > RATES {
         return false;
     }
-    if count > 20 {
-        return false;
-    }
-    let n = count as usize;
-    if rate_points_hold(points, n) {
-        return rate_points_rise(points, n);
-    }
-    false
+    let certificate = &points[..n];
+    certificate.iter().all(|p| rate_point_holds(*p))
+        && certificate.is_sorted_by(|p, q| rates_rise(*p, *q))
 }
 
 // ---- the settings
 
+#[tactic(auto, unfolding(crate::specs::Settings::others_hold))]
 fn others_hold(h: Kept, d: Kept, k: Kept, a: Kept) -> bool
     ensures { result ≡ others_hold h.v d.v k.v a.v }
 {
-    if !Height::holds(h.number()) {
-        return false;
-    }
-    if !SeaLevelDifference::holds(d.number()) {
-        return false;
-    }
-    if !TemperatureCoefficient::holds(k.number()) {
-        return false;
-    }
-    PsychrometerCoefficient::holds(a.number())
+    Height::holds(h.number())
+        && SeaLevelDifference::holds(d.number())
+        && TemperatureCoefficient::holds(k.number())
+        && PsychrometerCoefficient::holds(a.number())
 }
 
 // Whether a store opens with these settings, or the first of refusals 9, 10 and 25 that holds.
-pub fn check(settings: Settings) -> Checked
+#[tactic(auto, unfolding(crate::specs::Settings::checked, number::specs::Refusal::answer))]
+pub fn check(settings: Settings) -> Result<(), SettingsRefusal>
     ensures { checked_as result ≡ checked settings }
 {
-    let height = settings.height;
-    let difference = settings.difference;
-    let coefficient = settings.coefficient;
-    let psychrometer = settings.psychrometer;
-    if !others_hold(height.0, difference.0, coefficient.0, psychrometer.0) {
-        return Checked::OutsideLimits;
+    if !others_hold(
+        settings.height.0,
+        settings.difference.0,
+        settings.coefficient.0,
+        settings.psychrometer.0,
+    ) {
+        return Err(SettingsRefusal::OutsideLimits);
     }
-    let unit = settings.unit;
-    let points = settings.points;
-    if !certificate_holds(unit, settings.count, points) {
-        return Checked::CertificateBroken;
+    if !certificate_holds(settings.unit, settings.count, settings.points) {
+        return Err(SettingsRefusal::CertificateBroken);
     }
-    let anemometer = settings.anemometer;
-    let rates = anemometer.points;
-    if !anemometer_holds(anemometer.count, rates) {
-        return Checked::AnemometerBroken;
+    if !anemometer_holds(settings.anemometer.count, settings.anemometer.points) {
+        return Err(SettingsRefusal::AnemometerBroken);
     }
-    Checked::Good
+    Ok(())
 }

@@ -2,8 +2,7 @@
 #![tactic(auto)]
 
 ghost use Rattle.std.specs.Prelude.{◌≡◌, ◌<◌};
-ghost use Rattle.block.specs.Words.{setting_of};
-ghost use Rattle.sheet.specs.Sheet.{WORDS, unit_in, unit_number, points_in, rates_in, settings_in, paired, points_word, rates_word, sheet_word, sheet_of};
+ghost use Rattle.sheet.specs.Sheet.{WORDS, unit_in, unit_number, number_at, point_in, rate_in, settings_in, paired, sheet_word, sheet_of};
 
 use block::Store;
 use number::Kept;
@@ -12,6 +11,7 @@ use settings::{
     Anemometer, Correction, Height, Point, PsychrometerCoefficient, Rate, RatePoint,
     SeaLevelDifference, Settings, TemperatureCoefficient,
 };
+use std::array;
 
 // Where the points stand, the number of the anemometer's points, and those.
 const POINTS: usize = 6;
@@ -27,69 +27,58 @@ pub type Sheet = [u32; WORDS];
 fn unit_in(n: u32) -> BarometerUnit
     ensures { result ≡ unit_in n }
 {
-    if n == 0 {
-        return BarometerUnit::Hectopascals;
+    match n {
+        0 => BarometerUnit::Hectopascals,
+        _ => BarometerUnit::Millimetres,
     }
-    BarometerUnit::Millimetres
 }
 
-// The points of the barometer's certificate, those behind its last too.
-fn points_in(sheet: &Sheet) -> [Point; settings::POINTS]
-    ensures { result ≡ points_in sheet.now }
+// The number with a sign at a place.
+fn number_at(sheet: &Sheet, i: usize) -> Kept
+    requires { i < WORDS }
+    ensures { result.v ≡ number_at sheet.now i }
 {
-    let none = Point {
-        reading: Kept { v: 0 },
-        correction: Correction(Kept { v: 0 }),
-    };
-    let mut points = [none; settings::POINTS];
-    let mut k: usize = 0;
-    while k < settings::POINTS {
-        let at = POINTS + 2 * k;
-        points[k] = Point {
-            reading: octets::signed_word(sheet[at]),
-            correction: Correction(octets::signed_word(sheet[at + 1])),
-        };
-        k += 1;
-    }
-    points
+    octets::signed_word(sheet[i])
 }
 
-// And of the anemometer's.
-fn rates_in(sheet: &Sheet) -> [RatePoint; settings::RATES]
-    ensures { result ≡ rates_in sheet.now }
+// The point of the barometer's certificate with index k, and of the anemometer's. (Two functions, as in crate `block`.)
+fn point_in(sheet: &Sheet, k: usize) -> Point
+    requires { k < 16 }
+    ensures { result ≡ point_in sheet.now k }
 {
-    let none = RatePoint {
-        rate: Rate(Kept { v: 0 }),
-        speed: Kept { v: 0 },
-    };
-    let mut points = [none; settings::RATES];
-    let mut k: usize = 0;
-    while k < settings::RATES {
-        let at = RATES + 1 + 2 * k;
-        points[k] = RatePoint {
-            rate: Rate(octets::signed_word(sheet[at])),
-            speed: octets::signed_word(sheet[at + 1]),
-        };
-        k += 1;
+    let at = POINTS + 2 * k;
+    Point {
+        reading: number_at(sheet, at),
+        correction: Correction(number_at(sheet, at + 1)),
     }
-    points
 }
 
-// The settings that a sheet says, right or wrong.
+fn rate_in(sheet: &Sheet, k: usize) -> RatePoint
+    requires { k < 20 }
+    ensures { result ≡ rate_in sheet.now k }
+{
+    let at = RATES + 1 + 2 * k;
+    RatePoint {
+        rate: Rate(number_at(sheet, at)),
+        speed: number_at(sheet, at + 1),
+    }
+}
+
+// The settings that a sheet says, right or wrong; of the points those behind the last too.
 pub fn settings_in(sheet: &Sheet) -> Settings
     ensures { result ≡ settings_in sheet.now }
 {
     Settings {
         unit: unit_in(sheet[0]),
-        height: Height(octets::signed_word(sheet[1])),
-        difference: SeaLevelDifference(octets::signed_word(sheet[2])),
-        coefficient: TemperatureCoefficient(octets::signed_word(sheet[3])),
-        psychrometer: PsychrometerCoefficient(octets::signed_word(sheet[4])),
+        height: Height(number_at(sheet, 1)),
+        difference: SeaLevelDifference(number_at(sheet, 2)),
+        coefficient: TemperatureCoefficient(number_at(sheet, 3)),
+        psychrometer: PsychrometerCoefficient(number_at(sheet, 4)),
         count: sheet[5],
-        points: points_in(sheet),
+        points: array::from_fn(|k| point_in(sheet, k)),
         anemometer: Anemometer {
             count: sheet[RATES],
-            points: rates_in(sheet),
+            points: array::from_fn(|k| rate_in(sheet, k)),
         },
     }
 }
@@ -109,84 +98,46 @@ fn unit_number(unit: BarometerUnit) -> u32
 fn of_pair(count: u32, i: usize, first: Kept, second: Kept) -> u32
     ensures { result ≡ paired count i first.v second.v }
 {
-    if i / 2 < count as usize {
-        if i % 2 == 0 {
-            return octets::word_of(first);
-        }
-        return octets::word_of(second);
+    if i / 2 >= count as usize {
+        return 0;
     }
-    0
-}
-
-// The setting at a place from 1 to 4.
-fn setting_at(store: &Store, i: usize) -> Kept
-    requires { (0 < i) × (i < 5) }
-    ensures { result.v ≡ setting_of store.now i }
-{
-    if i == 1 {
-        return block::height(store).0;
+    if i % 2 == 0 {
+        octets::word_of(first)
+    } else {
+        octets::word_of(second)
     }
-    if i == 2 {
-        return block::difference(store).0;
-    }
-    if i == 3 {
-        return block::coefficient(store).0;
-    }
-    block::psychrometer(store).0
-}
-
-// The word at a place among the points, from the first on, and among the anemometer's.
-fn point_at(store: &Store, i: usize) -> u32
-    requires { i < 32 }
-    ensures { result ≡ points_word store.now i }
-{
-    let p = block::point(store, (i / 2) as u32);
-    let reading = p.reading;
-    let correction = p.correction;
-    of_pair(block::points(store), i, reading, correction.0)
-}
-
-fn rate_at(store: &Store, i: usize) -> u32
-    requires { i < 40 }
-    ensures { result ≡ rates_word store.now i }
-{
-    let p = block::rate(store, (i / 2) as u32);
-    let rate = p.rate;
-    let speed = p.speed;
-    of_pair(block::rates(store), i, rate.0, speed)
 }
 
 // The word at a place of the sheet.
+#[tactic(auto, unfolding(crate::specs::Sheet::sheet_word))]
 fn word_at(store: &Store, i: usize) -> u32
     requires { i < WORDS }
     ensures { result ≡ sheet_word store.now i }
 {
-    if i == 0 {
-        return unit_number(block::unit(store));
+    match i {
+        0 => unit_number(block::unit(store)),
+        1 => octets::word_of(block::height(store).0),
+        2 => octets::word_of(block::difference(store).0),
+        3 => octets::word_of(block::coefficient(store).0),
+        4 => octets::word_of(block::psychrometer(store).0),
+        5 => block::points(store),
+        POINTS..RATES => {
+            let k = i - POINTS;
+            let p = block::point(store, (k / 2) as u32);
+            of_pair(block::points(store), k, p.reading, p.correction.0)
+        }
+        RATES => block::rates(store),
+        _ => {
+            let k = i - (RATES + 1);
+            let p = block::rate(store, (k / 2) as u32);
+            of_pair(block::rates(store), k, p.rate.0, p.speed)
+        }
     }
-    if i < 5 {
-        return octets::word_of(setting_at(store, i));
-    }
-    if i == 5 {
-        return block::points(store);
-    }
-    if i < RATES {
-        return point_at(store, i - POINTS);
-    }
-    if i == RATES {
-        return block::rates(store);
-    }
-    rate_at(store, i - (RATES + 1))
 }
 
 // Puts the settings that a block was opened with into the lent sheet: of any block what its words say.
 pub fn read(store: &Store, sheet: &mut Sheet)
     ensures { sheet.new ≡ sheet_of store.now }
 {
-    *sheet = [0u32; WORDS];
-    let mut i: usize = 0;
-    while i < WORDS {
-        sheet[i] = word_at(store, i);
-        i += 1;
-    }
+    *sheet = array::from_fn(|i| word_at(store, i));
 }

@@ -1,4 +1,3 @@
-mod ArmLaws
 pub mod EveryNumber
 pub mod TableLaws
 pub mod SineLaws

@@ -1,5 +1,6 @@
 -- Each public contract of every crate allows a single answer, and of lent memory a single state to be left: one theorem, with a line
 -- for each function. Each from the theorem of its own crate. Assumes nothing.
+use mathlib.Core.Path.{refl}
 use Rattle.number.specs.Single.{Single, SingleLeft}
 use Rattle.number.proofs.SingleAnswers as number
 use Rattle.number.proofs.Kept.number.Reads as number-Kept-number
@@ -12,10 +13,8 @@ use Rattle.number.proofs.Number.times.Reads as number-Number-times
 use Rattle.number.proofs.Number.is_minus.Reads as number-Number-is-minus
 use Rattle.number.proofs.Number.size.Reads as number-Number-size
 use Rattle.number.proofs.Number.over.Reads as number-Number-over
-use Rattle.number.proofs.Number.at_most.Reads as number-Number-at-most
 use Rattle.number.proofs.Number.within.Reads as number-Number-within
 use Rattle.number.proofs.power.Reads as number-power
-use Rattle.number.proofs.smaller.Reads as number-smaller
 use Rattle.quantity.proofs.SingleAnswers as quantity
 use Rattle.quantity.proofs.BarometerUnit.holds.Reads as quantity-BarometerUnit-holds
 use Rattle.quantity.proofs.Hectopascals.holds.Reads as quantity-Hectopascals-holds
@@ -108,9 +107,6 @@ use Rattle.sine.proofs.sine.Reads as sine-sine
 use Rattle.sine.proofs.cosine.Reads as sine-cosine
 use Rattle.wind.proofs.SingleAnswers as wind
 use Rattle.wind.proofs.true_wind.Reads as wind-true-wind
-use Rattle.rows.proofs.SingleAnswers as rows
-use Rattle.rows.proofs.entry_of_901.Reads as rows-entry-of-901
-use Rattle.rows.proofs.entry_of_401.Reads as rows-entry-of-401
 use Rattle.vapour.proofs.SingleAnswers as vapour
 use Rattle.vapour.proofs.saturation.Reads as vapour-saturation
 use Rattle.vapour.proofs.saturation_over_ice.Reads as vapour-saturation-over-ice
@@ -159,12 +155,14 @@ use Rattle.handed.proofs.record_at.Reads as handed-record-at
 use Rattle.writer.proofs.SingleAnswers as writer
 use Rattle.writer.proofs.write.Reads as writer-write
 use Rattle.text.proofs.SingleAnswers as text
-use Rattle.text.proofs.put_byte.Reads as text-put-byte
-use Rattle.text.proofs.put_natural.Reads as text-put-natural
-use Rattle.text.proofs.put_number.Reads as text-put-number
-use Rattle.text.proofs.put_bytes.Reads as text-put-bytes
-use Rattle.text.proofs.put_field.Reads as text-put-field
-use Rattle.text.proofs.put_signed.Reads as text-put-signed
+use Rattle.text.proofs.SingleAnswers.{words_of}
+use Rattle.text.proofs.Page.new.Reads as text-Page-new
+use Rattle.text.proofs.Page.byte.Reads as text-Page-byte
+use Rattle.text.proofs.Page.natural.Reads as text-Page-natural
+use Rattle.text.proofs.Page.number.Reads as text-Page-number
+use Rattle.text.proofs.Page.bytes.Reads as text-Page-bytes
+use Rattle.text.proofs.Page.field.Reads as text-Page-field
+use Rattle.text.proofs.Page.signed.Reads as text-Page-signed
 use Rattle.listing.proofs.SingleAnswers as listing
 use Rattle.listing.proofs.list.Reads as listing-list
 use Rattle.desk.proofs.SingleAnswers as desk
@@ -189,7 +187,6 @@ use Rattle.answer.proofs.put_written.Reads as answer-put-written
 use Rattle.line.proofs.SingleAnswers as line
 use Rattle.line.proofs.next_word.Reads as line-next-word
 use Rattle.line.proofs.field_end.Reads as line-field-end
-use Rattle.line.proofs.same.Reads as line_same
 use Rattle.line.proofs.whole.Reads as line-whole
 use Rattle.line.proofs.signed.Reads as line-signed
 use Rattle.hexadecimal.proofs.SingleAnswers as hex
@@ -272,10 +269,8 @@ pub record OneAnswerEach : Type 0 where
   pub number-Number-is_minus-single : Single number-Number-is-minus.Post
   pub number-Number-size-single : Single number-Number-size.Post
   pub number-Number-over-single : Single number-Number-over.Post
-  pub number-Number-at_most-single : Single number-Number-at-most.Post
   pub number-Number-within-single : Single number-Number-within.Post
   pub number-power-single : Single number-power.Post
-  pub number-smaller-single : Single number-smaller.Post
   -- quantity
   pub quantity-BarometerUnit-holds-single : Single quantity-BarometerUnit-holds.Post
   pub quantity-Hectopascals-holds-single : Single quantity-Hectopascals-holds.Post
@@ -375,9 +370,6 @@ pub record OneAnswerEach : Type 0 where
   pub sine-cosine-single : Single sine-cosine.Post
   -- wind
   pub wind-true_wind-single : Single wind-true-wind.Post
-  -- rows
-  pub rows-entry_of_901-single : Single rows-entry-of-901.Post
-  pub rows-entry_of_401-single : Single rows-entry-of-401.Post
   -- vapour
   pub vapour-saturation-single : Single vapour-saturation.Post
   pub vapour-saturation_over_ice-single : Single vapour-saturation-over-ice.Post
@@ -430,18 +422,19 @@ pub record OneAnswerEach : Type 0 where
   pub writer-write-single : Single writer-write.Post
   pub writer-write-left : SingleLeft writer-write.Post (λ κs s. s.0.now)
   -- text
-  pub text-put_byte-single : Single text-put-byte.Post
-  pub text-put_byte-left : SingleLeft text-put-byte.Post (λ κs s. s.0.now)
-  pub text-put_natural-single : Single text-put-natural.Post
-  pub text-put_natural-left : SingleLeft text-put-natural.Post (λ κs s. s.0.now)
-  pub text-put_number-single : Single text-put-number.Post
-  pub text-put_number-left : SingleLeft text-put-number.Post (λ κs s. s.0.now)
-  pub text-put_bytes-single : Single text-put-bytes.Post
-  pub text-put_bytes-left : SingleLeft text-put-bytes.Post (λ κs s. s.0.now)
-  pub text-put_field-single : Single text-put-field.Post
-  pub text-put_field-left : SingleLeft text-put-field.Post (λ κs s. s.0.now)
-  pub text-put_signed-single : Single text-put-signed.Post
-  pub text-put_signed-left : SingleLeft text-put-signed.Post (λ κs s. s.0.now)
+  pub text-Page-new-single : Single text-Page-new.Post
+  pub text-Page-byte-single : Single text-Page-byte.Post
+  pub text-Page-byte-left : SingleLeft text-Page-byte.Post (λ κs s. words_of s.0.now)
+  pub text-Page-natural-single : Single text-Page-natural.Post
+  pub text-Page-natural-left : SingleLeft text-Page-natural.Post (λ κs s. words_of s.0.now)
+  pub text-Page-number-single : Single text-Page-number.Post
+  pub text-Page-number-left : SingleLeft text-Page-number.Post (λ κs s. words_of s.0.now)
+  pub text-Page-bytes-single : Single text-Page-bytes.Post
+  pub text-Page-bytes-left : SingleLeft text-Page-bytes.Post (λ κs s. words_of s.0.now)
+  pub text-Page-field-single : Single text-Page-field.Post
+  pub text-Page-field-left : SingleLeft text-Page-field.Post (λ κs s. words_of s.0.now)
+  pub text-Page-signed-single : Single text-Page-signed.Post
+  pub text-Page-signed-left : SingleLeft text-Page-signed.Post (λ κs s. words_of s.0.now)
   -- listing
   pub listing-list-single : Single listing-list.Post
   pub listing-list-left : SingleLeft listing-list.Post (λ κs s. s.1.0.now)
@@ -460,26 +453,25 @@ pub record OneAnswerEach : Type 0 where
   pub watchlog-take_out-left : SingleLeft logbook-take-out.Post (λ κs s. s.0.now)
   -- answer
   pub answer-put_opening-single : Single answer-put-opening.Post
-  pub answer-put_opening-left : SingleLeft answer-put-opening.Post (λ κs s. s.0.now)
+  pub answer-put_opening-left : SingleLeft answer-put-opening.Post (λ κs s. words_of s.0.now)
   pub answer-put_hearing-single : Single answer-put-hearing.Post
-  pub answer-put_hearing-left : SingleLeft answer-put-hearing.Post (λ κs s. s.0.now)
+  pub answer-put_hearing-left : SingleLeft answer-put-hearing.Post (λ κs s. words_of s.0.now)
   pub answer-put_noting-single : Single answer-put-noting.Post
-  pub answer-put_noting-left : SingleLeft answer-put-noting.Post (λ κs s. s.0.now)
+  pub answer-put_noting-left : SingleLeft answer-put-noting.Post (λ κs s. words_of s.0.now)
   pub answer-put_pressure-single : Single answer-put-pressure.Post
-  pub answer-put_pressure-left : SingleLeft answer-put-pressure.Post (λ κs s. s.0.now)
+  pub answer-put_pressure-left : SingleLeft answer-put-pressure.Post (λ κs s. words_of s.0.now)
   pub answer-put_tendency-single : Single answer-put-tendency.Post
-  pub answer-put_tendency-left : SingleLeft answer-put-tendency.Post (λ κs s. s.0.now)
+  pub answer-put_tendency-left : SingleLeft answer-put-tendency.Post (λ κs s. words_of s.0.now)
   pub answer-put_wind-single : Single answer-put-wind.Post
-  pub answer-put_wind-left : SingleLeft answer-put-wind.Post (λ κs s. s.0.now)
+  pub answer-put_wind-left : SingleLeft answer-put-wind.Post (λ κs s. words_of s.0.now)
   pub answer-put_humidity-single : Single answer-put-humidity.Post
-  pub answer-put_humidity-left : SingleLeft answer-put-humidity.Post (λ κs s. s.0.now)
+  pub answer-put_humidity-left : SingleLeft answer-put-humidity.Post (λ κs s. words_of s.0.now)
   pub answer-put_written-single : Single answer-put-written.Post
-  pub answer-put_written-left : SingleLeft answer-put-written.Post (λ κs s. s.0.now)
+  pub answer-put_written-left : SingleLeft answer-put-written.Post (λ κs s. words_of s.0.now)
   -- line
   pub line-next_word-single : Single line-next-word.Post
   pub line-word-single : line.SingleWord
   pub line-field_end-single : Single line-field-end.Post
-  pub line-same-single : Single line_same.Post
   pub line-whole-single : Single line-whole.Post
   pub line-signed-single : Single line-signed.Post
   -- hex
@@ -487,7 +479,7 @@ pub record OneAnswerEach : Type 0 where
   pub hexadecimal-unhex-single : Single hex-unhex.Post
   pub hexadecimal-unhex-left : SingleLeft hex-unhex.Post (λ κs s. s.1.0.now)
   pub hexadecimal-put_hex-single : Single hex-put-hex.Post
-  pub hexadecimal-put_hex-left : SingleLeft hex-put-hex.Post (λ κs s. s.0.now)
+  pub hexadecimal-put_hex-left : SingleLeft hex-put-hex.Post (λ κs s. words_of s.0.now)
   -- command
   pub command-parse-single : Single command-parse.Post
   pub command-parse-left : SingleLeft command-parse.Post (λ κs s. s.1.0.now)
@@ -496,7 +488,7 @@ pub record OneAnswerEach : Type 0 where
   pub values-records_of-single : Single values-records-of.Post
   -- notice
   pub notice-put_fault-single : Single notice-put-fault.Post
-  pub notice-put_fault-left : SingleLeft notice-put-fault.Post (λ κs s. s.0.now)
+  pub notice-put_fault-left : SingleLeft notice-put-fault.Post (λ κs s. words_of s.0.now)
   -- told
   pub told-hearing_told-single : Single told-hearing-told.Post
   pub told-noting_told-single : Single told-noting-told.Post
@@ -510,17 +502,17 @@ pub record OneAnswerEach : Type 0 where
   pub sheet-read-left : SingleLeft sheet-read.Post (λ κs s. s.1.0.now)
   -- spoken
   pub spoken-put_pressure-single : Single spoken-put-pressure.Post
-  pub spoken-put_pressure-left : SingleLeft spoken-put-pressure.Post (λ κs s. s.0.now)
+  pub spoken-put_pressure-left : SingleLeft spoken-put-pressure.Post (λ κs s. words_of s.0.now)
   pub spoken-put_tendency-single : Single spoken-put-tendency.Post
-  pub spoken-put_tendency-left : SingleLeft spoken-put-tendency.Post (λ κs s. s.0.now)
+  pub spoken-put_tendency-left : SingleLeft spoken-put-tendency.Post (λ κs s. words_of s.0.now)
   pub spoken-put_wind-single : Single spoken-put-wind.Post
-  pub spoken-put_wind-left : SingleLeft spoken-put-wind.Post (λ κs s. s.0.now)
+  pub spoken-put_wind-left : SingleLeft spoken-put-wind.Post (λ κs s. words_of s.0.now)
   pub spoken-put_humidity-single : Single spoken-put-humidity.Post
-  pub spoken-put_humidity-left : SingleLeft spoken-put-humidity.Post (λ κs s. s.0.now)
+  pub spoken-put_humidity-left : SingleLeft spoken-put-humidity.Post (λ κs s. words_of s.0.now)
   pub spoken-put_reading-single : Single spoken-put-reading.Post
-  pub spoken-put_reading-left : SingleLeft spoken-put-reading.Post (λ κs s. s.0.now)
+  pub spoken-put_reading-left : SingleLeft spoken-put-reading.Post (λ κs s. words_of s.0.now)
   pub spoken-put_refusal-single : Single spoken-put-refusal.Post
-  pub spoken-put_refusal-left : SingleLeft spoken-put-refusal.Post (λ κs s. s.0.now)
+  pub spoken-put_refusal-left : SingleLeft spoken-put-refusal.Post (λ κs s. words_of s.0.now)
   -- kept
   pub kept-newest-single : Single kept-newest.Post
   pub kept-reading-single : Single kept-reading.Post
@@ -593,10 +585,8 @@ one_answer_each =
       number-Number-is_minus-single = number.single_is_minus;
       number-Number-size-single = number.single_size;
       number-Number-over-single = number.single_over;
-      number-Number-at_most-single = number.single_at_most;
       number-Number-within-single = number.single_within;
       number-power-single = number.single_power;
-      number-smaller-single = number.single_smaller;
       quantity-BarometerUnit-holds-single = quantity.single_barometer_unit;
       quantity-Hectopascals-holds-single = quantity.single_hectopascals;
       quantity-Hectopascals-recorded-single = quantity.single_recorded;
@@ -682,8 +672,6 @@ one_answer_each =
       sine-sine-single = sine.single_sine;
       sine-cosine-single = sine.single_cosine;
       wind-true_wind-single = wind.single_true_wind;
-      rows-entry_of_901-single = rows.single_entry_of_901;
-      rows-entry_of_401-single = rows.single_entry_of_401;
       vapour-saturation-single = vapour.single_saturation;
       vapour-saturation_over_ice-single = vapour.single_over_ice;
       vapour-dew_point-single = vapour.single_dew_point;
@@ -728,18 +716,19 @@ one_answer_each =
       handed-record_at-single = handed.single_record_at;
       writer-write-single = writer.single_write;
       writer-write-left = writer.single_write_bytes;
-      text-put_byte-single = text.single_put_byte;
-      text-put_byte-left = text.single_put_byte_text;
-      text-put_natural-single = text.single_put_natural;
-      text-put_natural-left = text.single_put_natural_text;
-      text-put_number-single = text.single_put_number;
-      text-put_number-left = text.single_put_number_text;
-      text-put_bytes-single = text.single_put_bytes;
-      text-put_bytes-left = text.single_put_bytes_text;
-      text-put_field-single = text.single_put_field;
-      text-put_field-left = text.single_put_field_text;
-      text-put_signed-single = text.single_put_signed;
-      text-put_signed-left = text.single_put_signed_text;
+      text-Page-new-single = text.single_new;
+      text-Page-byte-single = λ κs a r r' s s' p q. refl;
+      text-Page-byte-left = text.single_byte_page;
+      text-Page-natural-single = λ κs a r r' s s' p q. refl;
+      text-Page-natural-left = text.single_natural_page;
+      text-Page-number-single = λ κs a r r' s s' p q. refl;
+      text-Page-number-left = text.single_number_page;
+      text-Page-bytes-single = λ κs a r r' s s' p q. refl;
+      text-Page-bytes-left = text.single_bytes_page;
+      text-Page-field-single = λ κs a r r' s s' p q. refl;
+      text-Page-field-left = text.single_field_page;
+      text-Page-signed-single = λ κs a r r' s s' p q. refl;
+      text-Page-signed-left = text.single_signed_page;
       listing-list-single = listing.single_list;
       listing-list-left = listing.single_list_text;
       desk-hear_all-single = desk.single_hear_all;
@@ -754,39 +743,38 @@ one_answer_each =
       watchlog-write-left = logbook.single_write_left;
       watchlog-take_out-single = logbook.single_take_out;
       watchlog-take_out-left = logbook.single_take_out_left;
-      answer-put_opening-single = answer.single_put_opening;
-      answer-put_opening-left = answer.single_put_opening_text;
-      answer-put_hearing-single = answer.single_put_hearing;
-      answer-put_hearing-left = answer.single_put_hearing_text;
-      answer-put_noting-single = answer.single_put_noting;
-      answer-put_noting-left = answer.single_put_noting_text;
-      answer-put_pressure-single = answer.single_put_pressure;
-      answer-put_pressure-left = answer.single_put_pressure_text;
-      answer-put_tendency-single = answer.single_put_tendency;
-      answer-put_tendency-left = answer.single_put_tendency_text;
-      answer-put_wind-single = answer.single_put_wind;
-      answer-put_wind-left = answer.single_put_wind_text;
-      answer-put_humidity-single = answer.single_put_humidity;
-      answer-put_humidity-left = answer.single_put_humidity_text;
-      answer-put_written-single = answer.single_put_written;
-      answer-put_written-left = answer.single_put_written_text;
+      answer-put_opening-single = λ κs a r r' s s' p q. refl;
+      answer-put_opening-left = answer.single_put_opening_page;
+      answer-put_hearing-single = λ κs a r r' s s' p q. refl;
+      answer-put_hearing-left = answer.single_put_hearing_page;
+      answer-put_noting-single = λ κs a r r' s s' p q. refl;
+      answer-put_noting-left = answer.single_put_noting_page;
+      answer-put_pressure-single = λ κs a r r' s s' p q. refl;
+      answer-put_pressure-left = answer.single_put_pressure_page;
+      answer-put_tendency-single = λ κs a r r' s s' p q. refl;
+      answer-put_tendency-left = answer.single_put_tendency_page;
+      answer-put_wind-single = λ κs a r r' s s' p q. refl;
+      answer-put_wind-left = answer.single_put_wind_page;
+      answer-put_humidity-single = λ κs a r r' s s' p q. refl;
+      answer-put_humidity-left = answer.single_put_humidity_page;
+      answer-put_written-single = λ κs a r r' s s' p q. refl;
+      answer-put_written-left = answer.single_put_written_page;
       line-next_word-single = line.single_next_word;
       line-word-single = line.single_word;
       line-field_end-single = line.single_field_end;
-      line-same-single = line.single_same;
       line-whole-single = line.single_whole;
       line-signed-single = line.single_signed;
       hexadecimal-is_hex-single = hex.single_is_hex;
       hexadecimal-unhex-single = hex.single_unhex;
       hexadecimal-unhex-left = hex.single_unhex_bytes;
-      hexadecimal-put_hex-single = hex.single_put_hex;
-      hexadecimal-put_hex-left = hex.single_put_hex_text;
+      hexadecimal-put_hex-single = λ κs a r r' s s' p q. refl;
+      hexadecimal-put_hex-left = hex.single_put_hex_page;
       command-parse-single = command.single_parse;
       command-parse-left = command.single_parse_numbers;
       values-settings_of-single = values.single_settings_of;
       values-records_of-single = values.single_records_of;
-      notice-put_fault-single = notice.single_put_fault;
-      notice-put_fault-left = notice.single_put_fault_text;
+      notice-put_fault-single = λ κs a r r' s s' p q. refl;
+      notice-put_fault-left = notice.single_put_fault_page;
       told-hearing_told-single = told.single_hearing_told;
       told-noting_told-single = told.single_noting_told;
       told-pressure_told-single = told.single_pressure_told;
@@ -796,18 +784,18 @@ one_answer_each =
       sheet-settings_in-single = sheet.single_settings_in;
       sheet-read-single = sheet.single_read;
       sheet-read-left = sheet.single_read_left;
-      spoken-put_pressure-single = spoken.single_put_pressure;
-      spoken-put_pressure-left = spoken.single_put_pressure_text;
-      spoken-put_tendency-single = spoken.single_put_tendency;
-      spoken-put_tendency-left = spoken.single_put_tendency_text;
-      spoken-put_wind-single = spoken.single_put_wind;
-      spoken-put_wind-left = spoken.single_put_wind_text;
-      spoken-put_humidity-single = spoken.single_put_humidity;
-      spoken-put_humidity-left = spoken.single_put_humidity_text;
-      spoken-put_reading-single = spoken.single_put_reading;
-      spoken-put_reading-left = spoken.single_put_reading_text;
-      spoken-put_refusal-single = spoken.single_put_refusal;
-      spoken-put_refusal-left = spoken.single_put_refusal_text;
+      spoken-put_pressure-single = λ κs a r r' s s' p q. refl;
+      spoken-put_pressure-left = spoken.single_put_pressure_page;
+      spoken-put_tendency-single = λ κs a r r' s s' p q. refl;
+      spoken-put_tendency-left = spoken.single_put_tendency_page;
+      spoken-put_wind-single = λ κs a r r' s s' p q. refl;
+      spoken-put_wind-left = spoken.single_put_wind_page;
+      spoken-put_humidity-single = λ κs a r r' s s' p q. refl;
+      spoken-put_humidity-left = spoken.single_put_humidity_page;
+      spoken-put_reading-single = λ κs a r r' s s' p q. refl;
+      spoken-put_reading-left = spoken.single_put_reading_page;
+      spoken-put_refusal-single = λ κs a r r' s s' p q. refl;
+      spoken-put_refusal-left = spoken.single_put_refusal_page;
       kept-newest-single = kept.single_newest;
       kept-reading-single = kept.single_reading;
       kept-stretch-single = kept.single_stretch;

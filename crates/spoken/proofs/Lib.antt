@@ -1,5 +1,4 @@
 pub mod FigureLaws
-pub mod MinusLaws
-pub mod SingleAnswers
 pub mod Worked
 pub mod FitLaws
+pub mod SingleAnswers

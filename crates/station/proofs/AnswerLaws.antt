@@ -1,17 +1,12 @@
 -- What the parts of a question come to in the whole: each law says, of a list of tests, which of them refuses. By whether each
 -- test holds. Assumes nothing.
-use mathlib.Core.Path.{◌≡◌, refl, sym, ap, ◌∙◌}
-use mathlib.Core.Bool.{Bool, true, false, not, cond}
+use mathlib.Core.Path.{◌≡◌, refl, sym, ap, subst, ◌∙◌}
+use mathlib.Core.Bool.{Bool, true, false, cond}
 use mathlib.Core.List.{List, [], ◌∷◌, ◌++◌}
 use Prim.Native.Nat.{ℕ}
-use lib.Dec.{leb}
-use borrow.Author.Tests.{lt-ltb, le-ltb, leb-true, leb-false, not-true, not-false}
 use Rattle.number.specs.Refusal.{Numbered, Test, Answer, refused, given, answer}
 use Rattle.number.proofs.Sizes.{impossible}
-use Rattle.quantity.specs.Limits.{last_minute}
-use Rattle.block.specs.Words.{is_store}
-use Rattle.store.specs.Block.{no_store}
-use Rattle.station.specs.Questions.{Answers, too_late}
+use Rattle.station.specs.Questions.{Answers}
 
 -- a refusal's number, 0 for what is given: two answers of different numbers are different
 unfoldable pub code : Answer Numbered (Unit {0}) → ℕ
@@ -35,21 +30,43 @@ pub end : {A : Type 0} (Rule : A → Type 0) (x : A) → Rule x → Answers [] R
 unfolding answer Answers
 end Rule x w = (refl, w)
 
--- the two tests that every question starts with
-module _ (s : List ℕ) (m : ℕ) {A : Type 0} (Rule : A → Type 0) (ts : List (Test Numbered)) {marked : Bool} (is : marked ≡ is_store s) where
-  pub no_store_lem : not marked ≡ true → Answers (no_store s ∷ ts) Rule (refused (no_store s).refusal)
-  no_store_lem h = stop (no_store s) ts Rule (ap not (sym is) ∙ h)
+-- ---- a part of a question, and the tests behind its own
 
-  module _ {timed : Bool} (e : timed ≡ leb m last_minute) (h : not marked ≡ false) where
-    pub too_late_lem : not timed ≡ true → Answers (no_store s ∷ too_late m ∷ ts) Rule (refused (too_late m).refusal)
-    too_late_lem k =
-        pass (no_store s) _ Rule _ (ap not (sym is) ∙ h)
-        (stop (too_late m) ts Rule (lt-ltb last_minute m (leb-false m last_minute (sym e ∙ not-true _ k))))
+-- what a part refuses, the question refuses
+pub refuses : {A B : Type 0} (ts us : List (Test Numbered)) (Rule : A → Type 0) (Rule' : B → Type 0) (r : Numbered)
+    → Answers ts Rule (refused r) → Answers (ts ++ us) Rule' (refused r)
+unfolding answer Answers
+refuses [] us Rule Rule' r w = impossible (cc)
+refuses (t ∷ ts) us Rule Rule' r w = go t.holds w (refuses ts us Rule Rule' r)
+  where
+    go : (b : Bool) → cond b (refused t.refusal) (answer {A = Unit {0}} ts tt) ≡ refused r
+        → (answer {A = Unit {0}} ts tt ≡ refused r → answer {A = Unit {0}} (ts ++ us) tt ≡ refused r)
+        → cond b (refused t.refusal) (answer {A = Unit {0}} (ts ++ us) tt) ≡ refused r
+    go true e rest = e
+    go false e rest = rest e
 
-    pub both_pass : not timed ≡ false → (a : Answer Numbered A) → Answers ts Rule a → Answers (no_store s ∷ too_late m ∷ ts) Rule a
-    both_pass k a w =
-        pass (no_store s) _ Rule a (ap not (sym is) ∙ h)
-        (pass (too_late m) ts Rule a (le-ltb last_minute m (leb-true m last_minute (sym e ∙ not-false _ k))) w)
+let_through : (ts us : List (Test Numbered)) → answer {A = Unit {0}} ts tt ≡ given tt → answer {A = Unit {0}} (ts ++ us) tt ≡ answer us tt
+unfolding answer
+let_through [] us e = refl
+let_through (t ∷ ts) us e = go t.holds e (let_through ts us)
+  where
+    go : (b : Bool) → cond b (refused t.refusal) (answer {A = Unit {0}} ts tt) ≡ given tt
+        → (answer {A = Unit {0}} ts tt ≡ given tt → answer {A = Unit {0}} (ts ++ us) tt ≡ answer us tt)
+        → cond b (refused t.refusal) (answer {A = Unit {0}} (ts ++ us) tt) ≡ answer us tt
+    go true e rest = impossible (cc)
+    go false e rest = rest e
+
+-- where it gives something, the tests behind it decide
+pub goes_on : {A B : Type 0} (ts us : List (Test Numbered)) (Rule : A → Type 0) (Rule' : B → Type 0) (x : A) (a : Answer Numbered B)
+    → Answers ts Rule (given x) → Answers us Rule' a → Answers (ts ++ us) Rule' a
+unfolding Answers
+goes_on ts us Rule Rule' x (refused r) w v = let_through ts us w.0 ∙ v
+goes_on ts us Rule Rule' x (given y) w v = (let_through ts us w.0 ∙ v.0, v.1)
+
+-- and that is by its rule
+pub by_rule : {A : Type 0} (ts : List (Test Numbered)) (Rule : A → Type 0) (x : A) → Answers ts Rule (given x) → Rule x
+unfolding Answers
+by_rule ts Rule x w = w.1
 
 -- what was let pass
 pub lets_pass : (t : Test Numbered) (ts : List (Test Numbered)) → answer {A = Unit {0}} (t ∷ ts) tt ≡ given tt
@@ -72,6 +89,10 @@ unfolding Answers
 ruled Rule x w = w.1
 
 -- ---- whole answers
+
+-- the same, told another way
+pub retold : {A : Type 0} (ts : List (Test Numbered)) (Rule : A → Type 0) {a b : Answer Numbered A} → a ≡ b → Answers ts Rule a → Answers ts Rule b
+retold ts Rule e w = subst (Answers ts Rule) e w
 
 -- the same tests and a rule that follows
 pub carry : {A : Type 0} (ts us : List (Test Numbered)) (Rule Rule' : A → Type 0) (a : Answer Numbered A)

@@ -7,6 +7,7 @@ use Prim.Native.Nat.{ℕ}
 use lib.IntN.{ℤ}
 use lib.Signed.{le_z}
 use borrow.Author.Tests.{not-false}
+use Rattle.std.specs.Prelude.{Result, Err}
 use Rattle.number.specs.Refusal.{Numbered, numbered, Test, test, plain, Answer, refused, given, answer}
 use Rattle.number.proofs.RefusalLaws.{refused_then, then_refused, given_then, then_given, given_is, plain_refused, plain_given}
 use Rattle.number.proofs.Sizes.{and_true, both}
@@ -18,11 +19,14 @@ use Rattle.vapour.specs.Vapour.{water, Tables, AreTables}
 use Rattle.vapour.proofs.SaturationLaws.{near_one}
 use Rattle.humidity.specs.Humidity.{vapour_pressure, EntriesFor, too_warm_for_ice, moisture_tests, within_limits, moisture_as, IsHumidity, IsMoisture}
 use Rattle.humidity.specs.declared.HumidityFigures.{HumidityFigures}
-use Rattle.humidity.specs.declared.Moisture.{Moisture}
+use Rattle.humidity.specs.declared.HumidityRefusal.{HumidityRefusal}
+use Rattle.humidity.specs.declared.HumidityRefusal.TheVariants.{WetAboveDry, TooWarmForIce, UnknownOutsideRange, AboveSaturation, TooDry, OutsideLimits}
 use Rattle.humidity.proofs.HumidityTheorems.{figured_then}
 use Rattle.humidity.proofs.VapourPressureLaws.{one_e}
 use Rattle.humidity.proofs.SingleAnswers.{is_given_lem}
 use Rattle.station.specs.Questions.{Answers}
+use Rattle.station.specs.Told.{refusal_of}
+use Rattle.station.specs.Parts.{moist_as}
 use Rattle.station.proofs.AnswerLaws.{pass, stop}
 
 -- ---- an answer as a question tells it
@@ -31,7 +35,7 @@ abbrev pub plainly : Answer ℕ HumidityFigures → Answer Numbered HumidityFigu
 plainly (refused n) = refused (numbered n [])
 plainly (given h) = given h
 
-abbrev pub asked : Moisture → Answer Numbered HumidityFigures
+abbrev pub asked : Result HumidityFigures HumidityRefusal → Answer Numbered HumidityFigures
 asked m = plainly (moisture_as m)
 
 module _ (ts : List (Test ℕ)) (f : HumidityFigures) (Rule : HumidityFigures → Type 0) where
@@ -59,7 +63,7 @@ module _ (s : BulbState) (dry wet p a : ℤ) (tables : Tables) (tabled : AreTabl
   entries_there Ice cold = tabled.of_ice wet (frozen cold)
   entries_there Unknown cold = (tabled.of_water wet in_wet, tabled.of_ice wet (frozen cold))
 
-  pub moisture_told : (m : Moisture) → IsMoisture s dry wet p a m
+  pub moisture_told : (m : Result HumidityFigures HumidityRefusal) → IsMoisture s dry wet p a m
       → Answers
       (test 7 [] (not (inside recorded_pressure p && inside settings.psychrometer a))
       ∷ plain (moisture_tests s dry wet (tables.over_water dry) (vapour_pressure s (tables.over_water wet) (tables.over_ice wet) a p dry wet)))
@@ -97,7 +101,16 @@ module _ (s : BulbState) (dry wet p a : ℤ) (tables : Tables) (tabled : AreTabl
           subst (λ (x : Answer ℕ HumidityFigures). Answers (test 7 [] (not (inside recorded_pressure p && inside settings.psychrometer a)) ∷ plain (moisture_tests s dry wet (tables.over_water dry) e)) (IsHumidity s dry wet p a) (plainly x)) (sym r)
           (stop _ _ _ (ap not (sym others ∙ l)))
 
+-- a refusal is told by the question's
+pub as_refused : (r : HumidityRefusal) → asked (Err r) ≡ refused (refusal_of (moist_as r))
+as_refused WetAboveDry = refl
+as_refused TooWarmForIce = refl
+as_refused UnknownOutsideRange = refl
+as_refused AboveSaturation = refl
+as_refused TooDry = refl
+as_refused OutsideLimits = refl
+
 -- the work of the same state and the same four numbers
-pub moisture_of : {s s' : BulbState} {a b c d a' b' c' d' : ℤ} (m : Moisture) → s ≡ s' → a ≡ a' → b ≡ b' → c ≡ c' → d ≡ d'
+pub moisture_of : {s s' : BulbState} {a b c d a' b' c' d' : ℤ} (m : Result HumidityFigures HumidityRefusal) → s ≡ s' → a ≡ a' → b ≡ b' → c ≡ c' → d ≡ d'
     → IsMoisture s a b c d m → IsMoisture s' a' b' c' d' m
 moisture_of m o p q r s is = rw (o, p, q, r, s) at is

@@ -1,6 +1,6 @@
 -- What is kept in a block is in the unit of its channel's kind and within its limits, whatever the block: a cell outside them counts as
 -- absent. By the definition of what a cell says. Assumes nothing.
-use mathlib.Core.Path.{◌≡◌, refl, sym, ap, ◌∙◌}
+use mathlib.Core.Path.{◌≡◌, refl, ap, ◌∙◌}
 use mathlib.Core.Bool.{Bool, true, false, ◌||◌, cond}
 use mathlib.Core.List.{List}
 use Prim.Native.Nat.{ℕ, ◌/◌, ◌%◌, ◌<◌}

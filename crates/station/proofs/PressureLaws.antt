@@ -1,53 +1,55 @@
--- Pressure and tendency: what a reading's work comes to, and what two minutes' pressures come to, test by test. Assumes nothing.
-use mathlib.Core.Path.{◌≡◌, refl, ap, ◌∙◌}
-use mathlib.Core.Bool.{Bool, true, false, not, cond}
+-- Pressure and tendency: what the work of the readings of a minute comes to. Assumes nothing.
+use mathlib.Core.Path.{◌≡◌, refl, sym, ap, ap₂, ◌∙◌}
+use mathlib.Core.Bool.{Bool, true, false, cond}
 use mathlib.Core.List.{List, [], ◌∷◌}
-use mathlib.Core.Logic.{inl, inr}
 use Prim.Native.Nat.{ℕ, ◌≤◌}
 use native.Mathlib.Omega.{arith}
-use types.Run.{OneOf}
-use denote.Enum.Declared.{tag_of}
 use lib.Dec.{lit≤, lit<}
 use lib.IntN.{ℤ, pos, neg_ℤ, nat_abs, ◌-ℤ◌}
-use borrow.Author.Tests.{not-false}
-use Rattle.number.specs.Refusal.{Numbered, numbered, Test, Answer, refused, given, answer}
+use Rattle.std.specs.Prelude.{Result, Ok, Err}
+use Rattle.std.specs.Result.{MatchResult}
+use Rattle.number.specs.Refusal.{refused, given, answer}
 use Rattle.number.proofs.Sizes.{impossible, within_size}
 use Rattle.quantity.specs.Limits.{inside, wheelhouse}
-use Rattle.message.specs.Receive.{Figure}
-use Rattle.cell.specs.Cells.{is_present}
-use Rattle.block.specs.Words.{unit_of}
+use Rattle.quantity.specs.declared.Hectopascals.{Hectopascals}
+use Rattle.message.specs.Receive.{Figure, entry_of}
 use Rattle.message.proofs.Keep.{pressure_size}
-use Rattle.pressure.specs.Pressure.{Barometer, in_unit, tenths_in, outside, sea_level, sea_level_answer, station_pressure, station_answer, pressure_as}
-use Rattle.pressure.specs.declared.WorkedPressure.{WorkedPressure}
-use Rattle.pressure.specs.declared.WorkedPressure.TheVariants.{Given, OutsideLimits, OutsideCertificate}
+use Rattle.cell.specs.Cells.{recalled, is_present, first}
+use Rattle.block.specs.Words.{unit_of}
+use Rattle.store.specs.Block.{recall_of}
+use Rattle.pressure.specs.Pressure.{Barometer, barometer_of, reading_as, in_unit, tenths_in, outside, sea_level, sea_level_answer, station_pressure, station_answer, pressure_as}
+use Rattle.pressure.specs.declared.BarometerReading.{BarometerReading}
+use Rattle.pressure.specs.declared.BarometerReading.TheVariants as shown
+use Rattle.pressure.specs.declared.PressureRefusal.{PressureRefusal}
+use Rattle.pressure.specs.declared.PressureRefusal.TheVariants.{OutsideLimits, OutsideCertificate}
 use Rattle.pressure.proofs.SizeLaws.{sea_level_stored}
 use Rattle.station.specs.Source.{Source, held, in_celsius, reading_at}
-use Rattle.station.specs.Questions.{Answers, missing_at, outside_at, sea_level_at, PressureRule}
-use Rattle.station.specs.Parts.{TellsAt}
-use Rattle.station.specs.declared.AtMinute.{AtMinute}
-use Rattle.station.specs.declared.AtMinute.TheVariants.{NotKept, Outside, SeaLevel}
-use Rattle.station.specs.contracts.AtMinute.{the_type}
-use Rattle.station.proofs.AnswerLaws.{code, pass, passed, ruled}
-use Rattle.station.proofs.KeptLaws.{first_inside}
+use Rattle.station.specs.Questions.{Answers, outside_at, sea_level_at, station_at}
+use Rattle.station.specs.Told as told
+use Rattle.station.specs.Parts.{barometer_is, AreReadings, refused_at}
+use Rattle.station.specs.declared.QuestionRefusal.{QuestionRefusal}
+use Rattle.station.specs.declared.Readings.{Readings}
+use Rattle.station.proofs.AnswerLaws.{pass, stop, end}
+use Rattle.station.proofs.KeptLaws.{first_inside, in_its_unit}
 
 -- ---- a worked pressure
 
 -- a reading in the barometer's unit is refused 12 where it lies outside the certificate, and else gives the figure
-abbrev pub Got : Bool → ℤ → WorkedPressure → Type 0
-Got is_outside z (Given p) = (is_outside ≡ false) × (p.0.v ≡ z)
-Got is_outside z OutsideLimits = ⊥
-Got is_outside z OutsideCertificate = is_outside ≡ true
+abbrev pub Got : Bool → ℤ → Result Hectopascals PressureRefusal → Type 0
+Got is_outside z (Ok p) = (is_outside ≡ false) × (p.0.v ≡ z)
+Got is_outside z (Err OutsideLimits) = ⊥
+Got is_outside z (Err OutsideCertificate) = is_outside ≡ true
 
-got : (o : Bool) (z : ℤ) (w : WorkedPressure) → pressure_as w ≡ cond o (refused 12) (given z) → Got o z w
-got true z (Given p) e = impossible (cc)
-got true z OutsideLimits e = absurd (let z : ◌≡◌ {A = ℕ} 7 12 = cc in omega arith)
-got true z OutsideCertificate e = refl
-got false z (Given p) e = (refl, cc)
-got false z OutsideLimits e = impossible (cc)
-got false z OutsideCertificate e = impossible (cc)
+got : (o : Bool) (z : ℤ) (w : Result Hectopascals PressureRefusal) → pressure_as w ≡ cond o (refused 12) (given z) → Got o z w
+got true z (Ok p) e = impossible (cc)
+got true z (Err OutsideLimits) e = absurd (let z : ◌≡◌ {A = ℕ} 7 12 = cc in omega arith)
+got true z (Err OutsideCertificate) e = refl
+got false z (Ok p) e = (refl, cc)
+got false z (Err OutsideLimits) e = impossible (cc)
+got false z (Err OutsideCertificate) e = impossible (cc)
 
 -- of what is in the barometer's unit
-module _ (b : Barometer) (f : Figure) (w : WorkedPressure) (shown : in_unit b.unit f ≡ true) where
+module _ (b : Barometer) (f : Figure) (w : Result Hectopascals PressureRefusal) (shown : in_unit b.unit f ≡ true) where
   pub sea_level_got : (t : ℤ) → inside wheelhouse t ≡ true → pressure_as w ≡ sea_level_answer b f t
       → Got (outside b (tenths_in b.unit f)) (sea_level b (tenths_in b.unit f) t) w
   unfolding sea_level_answer answer
@@ -57,78 +59,51 @@ module _ (b : Barometer) (f : Figure) (w : WorkedPressure) (shown : in_unit b.un
   unfolding station_answer answer
   station_got e = got _ _ w (e ∙ rw shown)
 
--- ---- sea level pressure at a minute
+-- what such a work tells of a minute
+pub pressure_told : (S : Source) (m : ℕ) (z : ℤ) (w : Result Hectopascals PressureRefusal) → Got (outside S.barometer (reading_at S m)) z w
+    → (r : Result Hectopascals QuestionRefusal) → MatchResult w (λ p. r ≡ Ok p) (λ q. r ≡ Err (refused_at m q))
+    → Answers (outside_at S m ∷ []) (λ p. p ≡ z) (told.pressure_as r)
+pressure_told S m z (Ok p) g r is = rw is (pass _ _ _ _ g.0 (end _ _ g.1))
+pressure_told S m z (Err OutsideLimits) g r is = absurd g
+pressure_told S m z (Err OutsideCertificate) g r is = rw is (stop _ _ _ g)
 
-module _ (S : Source) (m : ℕ) where
-  -- both readings are there
-  pub record There : Type 0 where
-    pub pressure : is_present (S.recall 0 m) ≡ true
-    pub warmth : is_present (S.recall 1 m) ≡ true
+-- ---- the readings of a minute
 
-  -- what the three tests come to
-  abbrev told : Bool → Bool → Bool → Answer Numbered (Unit {0})
-  told i j o = cond (not i) (refused (numbered 11 (0 ∷ m ∷ []))) (cond (not j) (refused (numbered 11 (1 ∷ m ∷ []))) (cond o (refused (numbered 12 (m ∷ []))) (given tt)))
+as_figure : (m : ℕ) (r : BarometerReading) → first (recalled (entry_of m (barometer_is r))) ≡ reading_as r
+as_figure m (shown.Hectopascals p) = refl
+as_figure m (shown.Millimetres p) = refl
 
-  -- a missing reading refuses before any later test
-  pub at_missing : {A : Type 0} (Rule : A → Type 0) (c : ℕ) (rest : List (Test Numbered)) → TellsAt S m (NotKept c)
-      → Answers (missing_at S m 0 ∷ missing_at S m 1 ∷ rest) Rule (refused (numbered 11 (c ∷ m ∷ [])))
-  unfolding answer Answers code
-  at_missing Rule c rest w = go (is_present (S.recall 0 m)) (is_present (S.recall 1 m)) (outside S.barometer (reading_at S m)) refl refl w
-    where
-      go : (i j o : Bool) → is_present (S.recall 0 m) ≡ i → is_present (S.recall 1 m) ≡ j → told i j o ≡ refused (numbered 11 (c ∷ m ∷ []))
-          → answer {A = Unit {0}} (missing_at S m 0 ∷ missing_at S m 1 ∷ rest) tt ≡ refused (numbered 11 (c ∷ m ∷ []))
-      go false j o p q e = rw p e
-      go true false o p q e = rw (p, q) e
-      go true true true p q e = absurd (let z = ap code e in omega arith)
-      go true true false p q e = absurd (let z = ap code e in omega arith)
+module _ (s : List ℕ) (m : ℕ) where
+  -- what the barometer shows, worked to the pressure at the station
+  module _ (r : BarometerReading) (is : recall_of s 0 m ≡ recalled (entry_of m (barometer_is r))) where
+    figure : first (recall_of s 0 m) ≡ reading_as r
+    figure = ap first is ∙ as_figure m r
 
-  pub at_outside : TellsAt S m Outside → There × (outside S.barometer (reading_at S m) ≡ true)
-  unfolding answer Answers code
-  at_outside w = go (is_present (S.recall 0 m)) (is_present (S.recall 1 m)) (outside S.barometer (reading_at S m)) refl refl refl w
-    where
-      go : (i j o : Bool) → is_present (S.recall 0 m) ≡ i → is_present (S.recall 1 m) ≡ j → outside S.barometer (reading_at S m) ≡ o
-          → told i j o ≡ refused (numbered 12 (m ∷ [])) → There × (outside S.barometer (reading_at S m) ≡ true)
-      go false j o p q r e = absurd (let z = ap code e in omega arith)
-      go true false o p q r e = absurd (let z = ap code e in omega arith)
-      go true true false p q r e = absurd (let z = ap code e in omega arith)
-      go true true true p q r e = (record { pressure = p; warmth = q }, r)
+    pub shown_there : is_present (recall_of s 0 m) ≡ true
+    shown_there = ap is_present is
 
-  pub at_given : {A : Type 0} (Rule : A → Type 0) (x : A) → Answers (missing_at S m 0 ∷ missing_at S m 1 ∷ outside_at S m ∷ []) Rule (given x)
-      → There × (outside S.barometer (reading_at S m) ≡ false) × Rule x
-  at_given Rule x w =
-      let a = passed (missing_at S m 0) _ Rule x w in
-      let b = passed (missing_at S m 1) _ Rule x a.1 in
-      let c = passed (outside_at S m) _ Rule x b.1 in
-      (record { pressure = not-false _ a.0; warmth = not-false _ b.0 }, c.0, ruled Rule x c.1)
+    pub station_worked : (w : Result Hectopascals PressureRefusal) → pressure_as w ≡ station_answer (barometer_of s) (reading_as r)
+        → let S = held s in Got (outside S.barometer (reading_at S m)) (station_at S m) w
+    station_worked w worked =
+        station_got (barometer_of s) (first (recall_of s 0 m)) w (in_its_unit s m shown_there) (worked ∙ ap (station_answer (barometer_of s)) (sym figure))
 
-  -- by its case: what is not missing is there, and what is there and no pressure is outside
-  pub at_there : (r : AtMinute) → OneOf (1 ∷ 2 ∷ []) (tag_of the_type r) → TellsAt S m r → There
-  at_there (NotKept c) (inl k) w = absurd (omega (arith, k))
-  at_there (NotKept c) (inr k) w = absurd (omega (arith, k))
-  at_there Outside k w = (at_outside w).0
-  at_there (SeaLevel p) k w = (at_given (PressureRule S m) p.0.v w).0
+  module _ (r : Readings) (are : AreReadings (held s) m r) where
+    warm : inside wheelhouse (in_celsius (recall_of s 1 m)) ≡ true
+    warm = first_inside s 1 m (lit< tt) (ap is_present are.wheelhouse)
 
-  pub at_no_pressure : (r : AtMinute) → OneOf (1 ∷ 2 ∷ []) (tag_of the_type r) → OneOf (0 ∷ 1 ∷ []) (tag_of the_type r) → TellsAt S m r
-      → outside S.barometer (reading_at S m) ≡ true
-  at_no_pressure (NotKept c) (inl k) o w = absurd (omega (arith, k))
-  at_no_pressure (NotKept c) (inr k) o w = absurd (omega (arith, k))
-  at_no_pressure Outside k o w = (at_outside w).1
-  at_no_pressure (SeaLevel p) k (inl o) w = absurd (omega (arith, o))
-  at_no_pressure (SeaLevel p) k (inr o) w = absurd (omega (arith, o))
+    -- and both readings to that at sea level
+    pub sea_level_worked : (w : Result Hectopascals PressureRefusal) → pressure_as w ≡ sea_level_answer (barometer_of s) (reading_as r.barometer) r.wheelhouse.0.v
+        → let S = held s in Got (outside S.barometer (reading_at S m)) (sea_level_at S m) w
+    sea_level_worked w worked =
+        sea_level_got (barometer_of s) (first (recall_of s 0 m)) w (in_its_unit s m (shown_there r.barometer are.barometer)) (in_celsius (recall_of s 1 m)) warm
+        (worked ∙ ap₂ (sea_level_answer (barometer_of s)) (sym (figure r.barometer are.barometer)) (sym (ap in_celsius are.wheelhouse)))
 
-  pub pass_there : {A : Type 0} (Rule : A → Type 0) (rest : List (Test Numbered)) (a : Answer Numbered A) → There
-      → Answers rest Rule a → Answers (missing_at S m 0 ∷ missing_at S m 1 ∷ rest) Rule a
-  pass_there Rule rest a t w =
-      pass (missing_at S m 0) _ Rule a (ap not t.pressure) (pass (missing_at S m 1) rest Rule a (ap not t.warmth) w)
-
--- the pressures of any block are small enough for their difference to fit
-pub at_size : (s : List ℕ) (m : ℕ) → There (held s) m → nat_abs (sea_level_at (held s) m) ≤ 187828
-at_size s m t =
-    let r = reading_at (held s) m in
-    let warmth = in_celsius ((held s).recall 1 m) in
-    sea_level_stored s r warmth
-    (omega (arith, pressure_size (unit_of s) r (first_inside s 0 m (lit< tt) t.pressure)))
-    (within_size (neg_ℤ (pos 400)) (pos 600) warmth 600 (lit≤ tt) (lit≤ tt) (first_inside s 1 m (lit< tt) t.warmth))
+    -- The pressures of any block are small enough for their difference to fit.
+    pub at_size : nat_abs (sea_level_at (held s) m) ≤ 187828
+    at_size =
+        sea_level_stored s (reading_at (held s) m) (in_celsius (recall_of s 1 m))
+        (omega (arith, pressure_size (unit_of s) (reading_at (held s) m) (first_inside s 0 m (lit< tt) (shown_there r.barometer are.barometer))))
+        (within_size (neg_ℤ (pos 400)) (pos 600) (in_celsius (recall_of s 1 m)) 600 (lit≤ tt) (lit≤ tt) warm)
 
 pub less : {a b c d : ℤ} → a ≡ c → b ≡ d → a -ℤ b ≡ c -ℤ d
 less p q = cc

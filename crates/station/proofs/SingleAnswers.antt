@@ -7,6 +7,7 @@ use Prim.Native.Nat.{ℕ}
 use lib.Dec.{eqb}
 use lib.IntN.{ℤ}
 use lib.ListN.{get_or}
+use Rattle.std.specs.Prelude.{Result, Ok, Err, Some}
 use Rattle.number.specs.Single.{Single, SingleLeft}
 use Rattle.number.specs.Refusal.{Numbered, Test, Answer, refused, given}
 use Rattle.quantity.specs.declared.Hectopascals.{Hectopascals}
@@ -14,8 +15,7 @@ use Rattle.quantity.specs.declared.Minute.{Minute}
 use Rattle.settings.proofs.SingleAnswers.{case_of, case_back}
 use Rattle.store.proofs.SingleAnswers.{hearing_of, hearing_back}
 use Rattle.vapour.proofs.TablesExist.{the_tables}
-use Rattle.wind.specs.declared.TrueWind.{TrueWind}
-use Rattle.wind.specs.declared.TrueWind.TheVariants as blown
+use Rattle.wind.specs.declared.Wind.{Wind}
 use Rattle.wind.proofs.WindTheorems.{single_wind}
 use Rattle.humidity.specs.declared.HumidityFigures.{HumidityFigures}
 use Rattle.humidity.proofs.SingleAnswers.{one_humidity}
@@ -28,14 +28,7 @@ use Rattle.station.specs.declared.QuestionRefusal.{QuestionRefusal}
 use Rattle.station.specs.declared.QuestionRefusal.TheVariants.{MinuteTooLate, OutsideLimits, MissingReading, OutsideCertificate, WetAboveDry, NoThreeHours, TooDry, TooWarmForIce, UnknownOutsideRange, AboveSaturation, NoStore}
 use Rattle.station.specs.declared.Refused.{Refused}
 use Rattle.station.specs.declared.Refused.TheVariants.{Plain, OfMinute, OfReading}
-use Rattle.station.specs.declared.PressureAnswer.{PressureAnswer}
-use Rattle.station.specs.declared.PressureAnswer.TheVariants as pressed
-use Rattle.station.specs.declared.TendencyAnswer.{TendencyAnswer}
-use Rattle.station.specs.declared.TendencyAnswer.TheVariants as changed
-use Rattle.station.specs.declared.WindAnswer.{WindAnswer}
-use Rattle.station.specs.declared.WindAnswer.TheVariants as blew
-use Rattle.station.specs.declared.HumidityAnswer.{HumidityAnswer}
-use Rattle.station.specs.declared.HumidityAnswer.TheVariants as moist
+use Rattle.station.specs.declared.PressureTendency.{PressureTendency}
 use Rattle.station.proofs.AnswerLaws.{one_answer}
 use Rattle.station.proofs.«open».Reads as opening
 use Rattle.station.proofs.hear.Reads as hear
@@ -122,14 +115,14 @@ tenths z = record { 0 = record { v = z } }
 
 -- ---- pressure
 
-pressure_of_lem : Answer Numbered ℤ → PressureAnswer
-pressure_of_lem (refused n) = pressed.Refused (refusal n)
-pressure_of_lem (given p) = pressed.Given (tenths p)
+pressure_of_lem : Answer Numbered ℤ → Result Hectopascals QuestionRefusal
+pressure_of_lem (refused n) = Err (refusal n)
+pressure_of_lem (given p) = Ok (tenths p)
 
-pressure_back : (r : PressureAnswer) → pressure_of_lem (pressure_as r) ≡ r
+pressure_back : (r : Result Hectopascals QuestionRefusal) → pressure_of_lem (pressure_as r) ≡ r
 unfolding pressure_of_lem tenths
-pressure_back (pressed.Refused r) = ap pressed.Refused (refusal_back r)
-pressure_back (pressed.Given p) = refl
+pressure_back (Ok p) = refl
+pressure_back (Err r) = ap Err (refusal_back r)
 
 -- ---- tendency
 
@@ -143,37 +136,30 @@ one_change S m x y v w = all
     all : change_of_lem x.change x.absent ≡ change_of_lem y.change y.absent
     all = let p = v.change ∙ sym w.change in let q = v.absent ∙ sym w.absent in cc
 
-tendency_of : Answer Numbered Change → TendencyAnswer
-tendency_of (refused n) = changed.Refused (refusal n)
-tendency_of (given t) = changed.Given (tenths t.change) t.absent
+tendency_of : Answer Numbered Change → Result PressureTendency QuestionRefusal
+tendency_of (refused n) = Err (refusal n)
+tendency_of (given t) = Ok (record { change = tenths t.change; absent = t.absent })
 
-tendency_back : (r : TendencyAnswer) → tendency_of (tendency_as r) ≡ r
+tendency_back : (r : Result PressureTendency QuestionRefusal) → tendency_of (tendency_as r) ≡ r
 unfolding tendency_of tenths
-tendency_back (changed.Refused r) = ap changed.Refused (refusal_back r)
-tendency_back (changed.Given c n) = refl
+tendency_back (Ok t) = refl
+tendency_back (Err r) = ap Err (refusal_back r)
 
--- ---- wind
+-- ---- wind and humidity
 
-wind_of : Answer Numbered TrueWind → WindAnswer
-wind_of (refused n) = blew.Refused (refusal n)
-wind_of (given (blown.Blows v d)) = blew.Given v d
-wind_of (given blown.OutsideLimits) = blew.Refused OutsideLimits
+result_of : {A : Type 0} → Answer Numbered A → Result A QuestionRefusal
+result_of (refused n) = Err (refusal n)
+result_of (given a) = Ok a
 
-wind_back : (r : WindAnswer) → wind_of (wind_as r) ≡ r
-unfolding wind_of
-wind_back (blew.Refused r) = ap blew.Refused (refusal_back r)
-wind_back (blew.Given v d) = refl
+wind_back : (r : Result Wind QuestionRefusal) → result_of (wind_as r) ≡ r
+unfolding result_of
+wind_back (Ok w) = refl
+wind_back (Err r) = ap Err (refusal_back r)
 
--- ---- humidity
-
-humidity_of : Answer Numbered HumidityFigures → HumidityAnswer
-humidity_of (refused n) = moist.Refused (refusal n)
-humidity_of (given h) = moist.Given h
-
-humidity_back : (r : HumidityAnswer) → humidity_of (humidity_as r) ≡ r
-unfolding humidity_of
-humidity_back (moist.Refused r) = ap moist.Refused (refusal_back r)
-humidity_back (moist.Given h) = refl
+humidity_back : (r : Result HumidityFigures QuestionRefusal) → result_of (humidity_as r) ≡ r
+unfolding result_of
+humidity_back (Ok h) = refl
+humidity_back (Err r) = ap Err (refusal_back r)
 
 -- ---- each question
 
@@ -181,8 +167,8 @@ humidity_back (moist.Given h) = refl
 answer_of : (q : Asked) → Answer Numbered (question q).Figures → Reply q
 answer_of asked.pressure = pressure_of_lem
 answer_of asked.tendency = tendency_of
-answer_of asked.wind = wind_of
-answer_of asked.humidity = humidity_of
+answer_of asked.wind = result_of
+answer_of asked.humidity = result_of
 
 answer_back : (q : Asked) (r : Reply q) → answer_of q ((question q).told r) ≡ r
 unfolding answer_of
@@ -191,11 +177,14 @@ answer_back asked.tendency = tendency_back
 answer_back asked.wind = wind_back
 answer_back asked.humidity = humidity_back
 
+one_wind : (x y : Wind) → Some x ≡ Some y → x ≡ y
+one_wind x y e = cc
+
 -- its rule allows one figure
 one_figure_lem : (q : Asked) (S : Source) (m : ℕ) (x y : (question q).Figures) → (question q).Rule S m x → (question q).Rule S m y → x ≡ y
 one_figure_lem asked.pressure S m x y v w = v ∙ sym w
 one_figure_lem asked.tendency S m x y v w = one_change S m x y v w
-one_figure_lem asked.wind S m x y v w = single_wind _ _ _ _ x y v w
+one_figure_lem asked.wind S m x y v w = one_wind x y (single_wind _ _ _ _ (Some x) (Some y) v w)
 one_figure_lem asked.humidity S m x y v w = one_humidity _ _ _ _ _ x y v w
 
 pub one_reply : (q : Asked) (before more : List (Test Numbered)) (S : Source) (m : ℕ) (r r' : Reply q)

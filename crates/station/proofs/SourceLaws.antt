@@ -7,22 +7,24 @@ use Prim.Native.Nat.{ℕ, ◌-◌}
 use lib.Dec.{eqb}
 use lib.IntN.{ℤ, ◌-ℤ◌}
 use borrow.Author.Tests.{eq-eqb}
+use Rattle.std.specs.Prelude.{Result}
 use Rattle.number.proofs.Sizes.{both}
 use Rattle.number.specs.Refusal.{test}
 use Rattle.quantity.specs.Limits.{three_hours}
 use Rattle.quantity.specs.declared.BarometerUnit.{BarometerUnit}
+use Rattle.quantity.specs.declared.Hectopascals.{Hectopascals}
 use Rattle.cell.specs.Cells.{Recall, is_present, first}
 use Rattle.pressure.specs.Pressure.{outside, sea_level, station_pressure, tenths_in}
 use Rattle.pressure.proofs.PressureTheorems.{Alike, alike_outside, alike_sea_level, alike_station}
 use Rattle.vapour.specs.Vapour.{Tables}
+use Rattle.wind.specs.declared.Wind.{Wind}
+use Rattle.humidity.specs.declared.HumidityFigures.{HumidityFigures}
 use Rattle.station.specs.Source.{Source, in_celsius, reading_at}
 use Rattle.station.specs.Questions.{Asked, question, Reply, is_in, reads, Answers, Tells, too_late, no_three_hours, missing_at, outside_at, sea_level_at, station_at, pressure_tests, PressureRule, tendency_tests, TendencyRule, wind_tests, WindRule, humidity_tests, HumidityRule}
 use Rattle.station.specs.Questions as asked
 use Rattle.station.specs.Told.{Change, pressure_as, tendency_as, wind_as, humidity_as}
-use Rattle.station.specs.declared.PressureAnswer.{PressureAnswer}
-use Rattle.station.specs.declared.TendencyAnswer.{TendencyAnswer}
-use Rattle.station.specs.declared.WindAnswer.{WindAnswer}
-use Rattle.station.specs.declared.HumidityAnswer.{HumidityAnswer}
+use Rattle.station.specs.declared.QuestionRefusal.{QuestionRefusal}
+use Rattle.station.specs.declared.PressureTendency.{PressureTendency}
 use Rattle.station.proofs.AnswerLaws.{carry, stopped, stopped_next}
 
 -- What two sources must have in common for a question asked at minute m.
@@ -81,7 +83,7 @@ the_other m j = rw (eq-eqb j j refl) (either (eqb j m))
     either false = refl
 
 module _ (S S' : Source) (m : ℕ) where
-  pressure_tells : Agree asked.pressure S S' m → (r : PressureAnswer) (late : Bool) → (too_late m).holds ≡ late
+  pressure_tells : Agree asked.pressure S S' m → (r : Result Hectopascals QuestionRefusal) (late : Bool) → (too_late m).holds ≡ late
       → Answers (pressure_tests S m) (PressureRule S m) (pressure_as r) → Answers (pressure_tests S' m) (PressureRule S' m) (pressure_as r)
   pressure_tells a r true h = stopped _ _ _ _ _ (pressure_as r) h
   pressure_tells a r false h =
@@ -92,7 +94,7 @@ module _ (S S' : Source) (m : ℕ) where
       (rw (missing_same S S' m 0 p, missing_same S S' m 1 t, outside_same S S' a.barometer m p))
       (λ x w. w ∙ sea_level_same S S' a.barometer m p t)
 
-  tendency_tells : Agree asked.tendency S S' m → (r : TendencyAnswer) (late early : Bool) → (too_late m).holds ≡ late → (no_three_hours m).holds ≡ early
+  tendency_tells : Agree asked.tendency S S' m → (r : Result PressureTendency QuestionRefusal) (late early : Bool) → (too_late m).holds ≡ late → (no_three_hours m).holds ≡ early
       → Answers (tendency_tests S m) (λ t. TendencyRule S m t) (tendency_as r) → Answers (tendency_tests S' m) (λ t. TendencyRule S' m t) (tendency_as r)
   tendency_tells a r true early h i = stopped _ _ _ _ _ (tendency_as r) h
   tendency_tells a r false true h i = stopped_next _ _ _ _ _ _ (tendency_as r) i
@@ -114,7 +116,7 @@ module _ (S S' : Source) (m : ℕ) where
       ))
       (change_same S S' a.barometer m p t p' t' (a.missing refl))
 
-  wind_tells : Agree asked.wind S S' m → (r : WindAnswer) (late : Bool) → (too_late m).holds ≡ late
+  wind_tells : Agree asked.wind S S' m → (r : Result Wind QuestionRefusal) (late : Bool) → (too_late m).holds ≡ late
       → Answers (wind_tests S m) (WindRule S m) (wind_as r) → Answers (wind_tests S' m) (WindRule S' m) (wind_as r)
   wind_tells a r true h = stopped _ _ _ _ _ (wind_as r) h
   wind_tells a r false h =
@@ -125,7 +127,7 @@ module _ (S S' : Source) (m : ℕ) where
       (rw (missing_same S S' m 2 wind, missing_same S S' m 3 ship))
       (λ w is. rw (wind, ship) at is)
 
-  humidity_tells : Agree asked.humidity S S' m → (tables : Tables) (r : HumidityAnswer) (late : Bool) → (too_late m).holds ≡ late
+  humidity_tells : Agree asked.humidity S S' m → (tables : Tables) (r : Result HumidityFigures QuestionRefusal) (late : Bool) → (too_late m).holds ≡ late
       → Answers (humidity_tests [] tables S m) (HumidityRule S m) (humidity_as r) → Answers (humidity_tests [] tables S' m) (HumidityRule S' m) (humidity_as r)
   humidity_tells a tables r true h = stopped _ _ _ _ _ (humidity_as r) h
   humidity_tells a tables r false h =

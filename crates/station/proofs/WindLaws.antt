@@ -4,11 +4,12 @@ use mathlib.Core.Bool.{true}
 use mathlib.Core.List.{List}
 use Prim.Native.Nat.{ℕ}
 use lib.Dec.{lit<}
+use Rattle.std.specs.Prelude.{Option}
 use Rattle.number.proofs.Sizes.{both}
 use Rattle.cell.specs.Cells.{is_present, in_degrees}
 use Rattle.store.specs.Block.{recall_of}
 use Rattle.wind.specs.Answer.{within_limits, IsWind}
-use Rattle.wind.specs.declared.TrueWind.{TrueWind}
+use Rattle.wind.specs.declared.Wind.{Wind}
 use Rattle.station.specs.Source.{in_metres_per_second, in_knots}
 use Rattle.station.proofs.KeptLaws.{first_inside, second_inside}
 
@@ -19,6 +20,6 @@ kept_within s m p q =
     both (both (both (second_inside s 3 m (lit< tt) q refl) (first_inside s 3 m (lit< tt) q)) (first_inside s 2 m (lit< tt) p)) (second_inside s 2 m (lit< tt) p refl)
 
 -- the wind of the same four numbers
-pub wind_of : {a b c d a' b' c' d' : ℕ} (w : TrueWind) → a ≡ a' → b ≡ b' → c ≡ c' → d ≡ d' → IsWind a b c d w → IsWind a' b' c' d' w
+pub wind_of : {a b c d a' b' c' d' : ℕ} (w : Option Wind) → a ≡ a' → b ≡ b' → c ≡ c' → d ≡ d' → IsWind a b c d w → IsWind a' b' c' d' w
 wind_of {a} {b} {c} {d} {a'} {b'} {c'} {d'} w p q r s is =
     subst (λ (x : ℕ). IsWind x b' c' d' w) p (subst (λ (x : ℕ). IsWind a x c' d' w) q (subst (λ (x : ℕ). IsWind a b x d' w) r (subst (λ (x : ℕ). IsWind a b c x w) s is)))

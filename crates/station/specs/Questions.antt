@@ -1,23 +1,22 @@
 -- The four questions: in which order they are tested, by which rule their figures are worked, and what they read.
-use Rattle.std.specs.Prelude.{◌≡◌, Bool, false, not, ◌&&◌, ◌||◌, cond, List, [], ◌∷◌, ◌++◌, ℕ, ◌-◌, eqb, ltb, ℤ, ◌-ℤ◌}
+use Rattle.std.specs.Prelude.{◌≡◌, Bool, false, not, ◌&&◌, ◌||◌, cond, List, [], ◌∷◌, ◌++◌, ℕ, ◌-◌, eqb, ltb, ℤ, ◌-ℤ◌, Result, Some}
 use Rattle.number.specs.Refusal.{Numbered, Test, test, plain, Answer, refused, given, answer}
 use Rattle.quantity.specs.Limits.{last_minute, three_hours, inside, recorded_pressure}
 use Rattle.quantity.specs.declared.BulbState.{BulbState}
+use Rattle.quantity.specs.declared.Hectopascals.{Hectopascals}
 use Rattle.settings.specs.Settings as settings
 use Rattle.cell.specs.Cells.{is_present, in_degrees}
 use Rattle.store.specs.Block.{no_store}
 use Rattle.pressure.specs.Pressure.{outside, sea_level, station_pressure}
 use Rattle.vapour.specs.Vapour.{Tables, AreTables}
 use Rattle.wind.specs.Answer.{IsWind}
-use Rattle.wind.specs.declared.TrueWind.{TrueWind}
+use Rattle.wind.specs.declared.Wind.{Wind}
 use Rattle.humidity.specs.Humidity.{vapour_pressure, moisture_tests, IsHumidity}
 use Rattle.humidity.specs.declared.HumidityFigures.{HumidityFigures}
 use Rattle.station.specs.Source.{Source, held, in_celsius, in_metres_per_second, in_knots, state_in, reading_at}
 use Rattle.station.specs.Told.{Change, pressure_as, tendency_as, wind_as, humidity_as}
-use Rattle.station.specs.declared.PressureAnswer.{PressureAnswer}
-use Rattle.station.specs.declared.TendencyAnswer.{TendencyAnswer}
-use Rattle.station.specs.declared.WindAnswer.{WindAnswer}
-use Rattle.station.specs.declared.HumidityAnswer.{HumidityAnswer}
+use Rattle.station.specs.declared.QuestionRefusal.{QuestionRefusal}
+use Rattle.station.specs.declared.PressureTendency.{PressureTendency}
 
 -- ---- the reasons
 
@@ -78,8 +77,8 @@ abbrev pub wind_tests : Source → ℕ → List (Test Numbered)
 wind_tests S m = too_late m ∷ missing_at S m 2 ∷ missing_at S m 3 ∷ []
 
 -- Course and ship's speed of channel 3, speed and direction from the bow of channel 2.
-abbrev pub WindRule : Source → ℕ → TrueWind → Type 0
-WindRule S m w = IsWind (in_degrees (S.recall 3 m)) (in_knots (S.recall 3 m)) (in_metres_per_second (S.recall 2 m)) (in_degrees (S.recall 2 m)) w
+abbrev pub WindRule : Source → ℕ → Wind → Type 0
+WindRule S m w = IsWind (in_degrees (S.recall 3 m)) (in_knots (S.recall 3 m)) (in_metres_per_second (S.recall 2 m)) (in_degrees (S.recall 2 m)) (Some w)
 
 -- ---- humidity
 
@@ -141,7 +140,7 @@ its m = cond (too_late m).holds [] (m ∷ [])
 abbrev pub question : Asked → Question
 question pressure =
     record {
-      Reply = PressureAnswer;
+      Reply = Result Hectopascals QuestionRefusal;
       Figures = ℤ;
       told = pressure_as;
       tests = λ more tables. pressure_tests;
@@ -151,7 +150,7 @@ question pressure =
     }
 question tendency =
     record {
-      Reply = TendencyAnswer;
+      Reply = Result PressureTendency QuestionRefusal;
       Figures = Change;
       told = tendency_as;
       tests = λ more tables. tendency_tests;
@@ -161,8 +160,8 @@ question tendency =
     }
 question wind =
     record {
-      Reply = WindAnswer;
-      Figures = TrueWind;
+      Reply = Result Wind QuestionRefusal;
+      Figures = Wind;
       told = wind_as;
       tests = λ more tables. wind_tests;
       Rule = WindRule;
@@ -171,7 +170,7 @@ question wind =
     }
 question humidity =
     record {
-      Reply = HumidityAnswer;
+      Reply = Result HumidityFigures QuestionRefusal;
       Figures = HumidityFigures;
       told = humidity_as;
       tests = humidity_tests;

@@ -1,22 +1,15 @@
 -- Document 01's number and values of each case of an answer, and the number of a block that is no store.
-use Rattle.std.specs.Prelude.{[], ◌∷◌, ℕ, ℤ}
+use Rattle.std.specs.Prelude.{[], ◌∷◌, ℕ, ℤ, Result, Ok, Err}
 use Rattle.number.specs.Refusal.{Numbered, numbered, Answer, refused, given}
 use Rattle.block.specs.Layout.{NO_STORE}
-use Rattle.wind.specs.declared.TrueWind.{TrueWind}
-use Rattle.wind.specs.declared.TrueWind.TheVariants.{Blows}
+use Rattle.quantity.specs.declared.Hectopascals.{Hectopascals}
+use Rattle.wind.specs.declared.Wind.{Wind}
 use Rattle.humidity.specs.declared.HumidityFigures.{HumidityFigures}
 use Rattle.station.specs.declared.QuestionRefusal.{QuestionRefusal}
 use Rattle.station.specs.declared.QuestionRefusal.TheVariants.{MinuteTooLate, OutsideLimits, MissingReading, OutsideCertificate, WetAboveDry, NoThreeHours, TooDry, TooWarmForIce, UnknownOutsideRange, AboveSaturation, NoStore}
 use Rattle.station.specs.declared.Refused.{Refused}
 use Rattle.station.specs.declared.Refused.TheVariants.{Plain, OfMinute, OfReading}
-use Rattle.station.specs.declared.PressureAnswer.{PressureAnswer}
-use Rattle.station.specs.declared.PressureAnswer.TheVariants as pressure
-use Rattle.station.specs.declared.TendencyAnswer.{TendencyAnswer}
-use Rattle.station.specs.declared.TendencyAnswer.TheVariants as tendency
-use Rattle.station.specs.declared.WindAnswer.{WindAnswer}
-use Rattle.station.specs.declared.WindAnswer.TheVariants as wind
-use Rattle.station.specs.declared.HumidityAnswer.{HumidityAnswer}
-use Rattle.station.specs.declared.HumidityAnswer.TheVariants as humidity
+use Rattle.station.specs.declared.PressureTendency.{PressureTendency}
 
 abbrev pub refusal_of : QuestionRefusal → Numbered
 refusal_of MinuteTooLate = numbered 5 []
@@ -43,18 +36,18 @@ pub record Change : Type 0 where
   pub absent : ℕ
 
 -- tenths of hPa
-abbrev pub pressure_as : PressureAnswer → Answer Numbered ℤ
-pressure_as (pressure.Given p) = given p.0.v
-pressure_as (pressure.Refused r) = refused (refusal_of r)
+abbrev pub pressure_as : Result Hectopascals QuestionRefusal → Answer Numbered ℤ
+pressure_as (Ok p) = given p.0.v
+pressure_as (Err r) = refused (refusal_of r)
 
-abbrev pub tendency_as : TendencyAnswer → Answer Numbered Change
-tendency_as (tendency.Given c n) = given (record { change = c.0.v; absent = n })
-tendency_as (tendency.Refused r) = refused (refusal_of r)
+abbrev pub tendency_as : Result PressureTendency QuestionRefusal → Answer Numbered Change
+tendency_as (Ok t) = given (record { change = t.change.0.v; absent = t.absent })
+tendency_as (Err r) = refused (refusal_of r)
 
-abbrev pub wind_as : WindAnswer → Answer Numbered TrueWind
-wind_as (wind.Given v d) = given (Blows v d)
-wind_as (wind.Refused r) = refused (refusal_of r)
+abbrev pub wind_as : Result Wind QuestionRefusal → Answer Numbered Wind
+wind_as (Ok w) = given w
+wind_as (Err r) = refused (refusal_of r)
 
-abbrev pub humidity_as : HumidityAnswer → Answer Numbered HumidityFigures
-humidity_as (humidity.Given h) = given h
-humidity_as (humidity.Refused r) = refused (refusal_of r)
+abbrev pub humidity_as : Result HumidityFigures QuestionRefusal → Answer Numbered HumidityFigures
+humidity_as (Ok h) = given h
+humidity_as (Err r) = refused (refusal_of r)

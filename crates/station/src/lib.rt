@@ -3,25 +3,29 @@
 #![tactic(auto)]
 
 ghost use Rattle.std.specs.Prelude.{◌≡◌};
+ghost use Rattle.message.specs.Receive.{entry_of};
 ghost use Rattle.settings.specs.Settings.{checked, checked_as};
+ghost use Rattle.cell.specs.Cells.{recalled};
 ghost use Rattle.store.specs.Block.{opened_by, recall_of, Hears};
 ghost use Rattle.store.specs.Noting.{Notes};
 ghost use Rattle.station.specs.Source.{held};
 ghost use Rattle.station.specs.Questions.{TellsOf};
 ghost use Rattle.station.specs.Questions as asked;
 ghost use Rattle.station.specs.Told.{refusal_of, numbered_as};
-ghost use Rattle.station.specs.Parts.{Shows, TellsAt};
+ghost use Rattle.station.specs.Parts.{Begins, Keeps, barometer_is, wheelhouse_is, felt_is, motion_is, dry_bulb_is, wet_bulb_is, AreReadings, ReadsBoth, WorksSeaLevel, WorksStation, refused_at, moist_as};
 
 use anemometer::Note;
 use block::{NO_STORE, Store};
-use cell::Recalled;
-use humidity::{HumidityFigures, Moisture};
+use humidity::{HumidityFigures, HumidityRefusal};
 use message::Reading;
-use pressure::{BarometerReading, WorkedPressure};
-use quantity::{Degrees, Hectopascals, MetresPerSecond, Minute};
-use settings::{Checked, Settings};
-use store::Hearing;
-use wind::TrueWind;
+use pressure::{BarometerReading, PressureRefusal};
+use quantity::{
+    BulbState, BulbTemperature, Degrees, Hectopascals, Knots, MetresPerSecond, Minute,
+    WheelhouseTemperature,
+};
+use settings::{Settings, SettingsRefusal};
+use store::HearingRefusal;
+use wind::Wind;
 
 // Why a question is refused.
 #[derive(Clone, Copy)]
@@ -58,52 +62,24 @@ pub enum Refused {
     OfReading(u32, u32, Minute),
 }
 
-// Pressure at sea level.
-#[derive(Clone, Copy)]
-pub enum PressureAnswer {
-    Given(Hectopascals),
-    Refused(QuestionRefusal),
-}
-
 // Its change in three hours, and how many barometer minutes between are absent.
 #[derive(Clone, Copy)]
-pub enum TendencyAnswer {
-    Given(Hectopascals, u64),
-    Refused(QuestionRefusal),
+pub struct PressureTendency {
+    pub change: Hectopascals,
+    pub absent: u64,
 }
 
-// Speed of the true wind, and where it comes from: 1 to 360, or 0 in a calm.
+// What sea level pressure is worked from: what the barometer shows, and the temperature in the wheelhouse.
 #[derive(Clone, Copy)]
-pub enum WindAnswer {
-    Given(MetresPerSecond, Degrees),
-    Refused(QuestionRefusal),
-}
-
-#[derive(Clone, Copy)]
-pub enum HumidityAnswer {
-    Given(HumidityFigures),
-    Refused(QuestionRefusal),
-}
-
-// What the barometer shows at a minute.
-#[derive(Clone, Copy)]
-enum Shown {
-    Nothing,
-    Shows(BarometerReading),
-}
-
-// Sea level pressure at a minute, or the channel that has no reading, or that the reading lies outside the certificate.
-#[derive(Clone, Copy)]
-enum AtMinute {
-    NotKept(u32),
-    Outside,
-    SeaLevel(Hectopascals),
+struct Readings {
+    barometer: BarometerReading,
+    wheelhouse: WheelhouseTemperature,
 }
 
 // ---- opening and hearing
 
 // Opens a store: the block starts empty with these settings, or the first of refusals 9, 10 and 25 that holds leaves it as it was.
-pub fn open(store: &mut Store, settings: Settings) -> Checked
+pub fn open(store: &mut Store, settings: Settings) -> Result<(), SettingsRefusal>
     ensures { (checked_as result ≡ checked settings) × (store.new ≡ opened_by store.old settings) }
 {
     store::open(store, settings)
@@ -111,7 +87,7 @@ pub fn open(store: &mut Store, settings: Settings) -> Checked
 
 // Hears a message: it is kept, or the first of refusals 1 to 8 and 19 that holds leaves the block as it was. A block that is no store
 // hears nothing.
-pub fn hear(store: &mut Store, message: &[u8]) -> Hearing
+pub fn hear(store: &mut Store, message: &[u8]) -> Result<(), HearingRefusal>
     ensures { Hears store.old store.new message.now result }
 {
     store::hear(store, message)
@@ -119,7 +95,7 @@ pub fn hear(store: &mut Store, message: &[u8]) -> Hearing
 
 // Hears an entry of the hand anemometer: it is kept as a reading of channel 2, or the first of refusals 5, 7, 8, 19, 23, 11 and 24 that
 // holds leaves the block as it was. A block that is no store hears nothing.
-pub fn note(store: &mut Store, n: Note) -> Hearing
+pub fn note(store: &mut Store, n: Note) -> Result<(), HearingRefusal>
     ensures { Notes store.old store.new n result }
 {
     store::note(store, n)
@@ -146,175 +122,221 @@ pub fn number(r: QuestionRefusal) -> Refused
     }
 }
 
-// ---- pressure and tendency
+// The number of a humidity's refusal is the question's.
+impl From<HumidityRefusal> for QuestionRefusal {
+    ghost from_gives = { λ r q. q ≡ moist_as r };
 
-// What the barometer shows at a minute, in its unit.
-fn barometer_at(store: &Store, minute: u32) -> Shown
-    ensures { Shows (recall_of store.now 0 minute) result }
-{
-    let Recalled::Kept(kept) = store::recall(store, 0, minute) else {
-        return Shown::Nothing;
-    };
-    match kept {
-        Reading::Hectopascals(p) => Shown::Shows(BarometerReading::Hectopascals(p)),
-        Reading::Millimetres(p) => Shown::Shows(BarometerReading::Millimetres(p)),
-        _ => Shown::Nothing,
+    fn from(r: HumidityRefusal) -> QuestionRefusal {
+        match r {
+            HumidityRefusal::WetAboveDry => QuestionRefusal::WetAboveDry,
+            HumidityRefusal::TooWarmForIce => QuestionRefusal::TooWarmForIce,
+            HumidityRefusal::UnknownOutsideRange => QuestionRefusal::UnknownOutsideRange,
+            HumidityRefusal::AboveSaturation => QuestionRefusal::AboveSaturation,
+            HumidityRefusal::TooDry => QuestionRefusal::TooDry,
+            HumidityRefusal::OutsideLimits => QuestionRefusal::OutsideLimits,
+        }
     }
 }
 
-// Sea level pressure at a minute.
-fn sea_level_at(store: &Store, minute: u32) -> AtMinute
-    ensures { TellsAt (held store.now) minute result }
+// The tests that every question begins with: the block is a store, and the minute is one.
+fn begin(store: &Store, minute: u32) -> Result<(), QuestionRefusal>
+    ensures { Begins store.now minute result }
 {
-    let Shown::Shows(reading) = barometer_at(store, minute) else {
-        return AtMinute::NotKept(0);
-    };
-    let Recalled::Kept(kept) = store::recall(store, 1, minute) else {
-        return AtMinute::NotKept(1);
-    };
-    let Reading::Wheelhouse(t) = kept else {
-        return AtMinute::NotKept(1);
-    };
-    match pressure::sea_level_pressure(store, reading, t) {
-        WorkedPressure::Given(p) => AtMinute::SeaLevel(p),
-        WorkedPressure::OutsideLimits => AtMinute::NotKept(0),
-        WorkedPressure::OutsideCertificate => AtMinute::Outside,
+    if !block::is_store(store) {
+        return Err(QuestionRefusal::NoStore);
+    }
+    if !Minute::holds(minute) {
+        return Err(QuestionRefusal::MinuteTooLate);
+    }
+    Ok(())
+}
+
+// ---- what is kept of a channel's minute
+
+// What the barometer shows at a minute, in its unit.
+fn barometer_at(store: &Store, minute: u32) -> Option<BarometerReading>
+    ensures { Keeps barometer_is (recall_of store.now 0 minute) minute result }
+{
+    match store::recall(store, 0, minute)? {
+        Reading::Hectopascals(p) => Some(BarometerReading::Hectopascals(p)),
+        Reading::Millimetres(p) => Some(BarometerReading::Millimetres(p)),
+        _ => None,
+    }
+}
+
+// The temperature in the wheelhouse.
+fn wheelhouse_at(store: &Store, minute: u32) -> Option<WheelhouseTemperature>
+    ensures { Keeps wheelhouse_is (recall_of store.now 1 minute) minute result }
+{
+    match store::recall(store, 1, minute)? {
+        Reading::Wheelhouse(t) => Some(t),
+        _ => None,
+    }
+}
+
+// The apparent wind: its speed, and where it comes from, off the bow.
+fn felt_at(store: &Store, minute: u32) -> Option<(MetresPerSecond, Degrees)>
+    ensures { Keeps felt_is (recall_of store.now 2 minute) minute result }
+{
+    match store::recall(store, 2, minute)? {
+        Reading::ApparentWind(speed, from_bow) => Some((speed, from_bow)),
+        _ => None,
+    }
+}
+
+// The ship's speed and course.
+fn motion_at(store: &Store, minute: u32) -> Option<(Knots, Degrees)>
+    ensures { Keeps motion_is (recall_of store.now 3 minute) minute result }
+{
+    match store::recall(store, 3, minute)? {
+        Reading::ShipMotion(speed, course) => Some((speed, course)),
+        _ => None,
+    }
+}
+
+// The temperature of the dry bulb.
+fn dry_bulb_at(store: &Store, minute: u32) -> Option<BulbTemperature>
+    ensures { Keeps dry_bulb_is (recall_of store.now 4 minute) minute result }
+{
+    match store::recall(store, 4, minute)? {
+        Reading::DryBulb(t) => Some(t),
+        _ => None,
+    }
+}
+
+// What is on the wick of the wet bulb, and its temperature.
+fn wet_bulb_at(store: &Store, minute: u32) -> Option<(BulbState, BulbTemperature)>
+    ensures { Keeps wet_bulb_is (recall_of store.now 5 minute) minute result }
+{
+    match store::recall(store, 5, minute)? {
+        Reading::WetBulb(state, t) => Some((state, t)),
+        _ => None,
+    }
+}
+
+// ---- pressure and tendency
+
+// Both readings that sea level pressure is worked from.
+fn readings_at(store: &Store, minute: u32) -> Result<Readings, QuestionRefusal>
+    ensures { ReadsBoth (held store.now) minute result }
+{
+    let barometer = barometer_at(store, minute).ok_or(QuestionRefusal::MissingReading(
+        0,
+        Minute(minute),
+    ))?;
+    let wheelhouse = wheelhouse_at(store, minute).ok_or(QuestionRefusal::MissingReading(
+        1,
+        Minute(minute),
+    ))?;
+    Ok(Readings {
+        barometer,
+        wheelhouse,
+    })
+}
+
+// Why a pressure that was asked at a minute is refused.
+fn refused_at(minute: u32, r: PressureRefusal) -> QuestionRefusal
+    ensures { result ≡ refused_at minute r }
+{
+    match r {
+        PressureRefusal::OutsideLimits => QuestionRefusal::OutsideLimits,
+        PressureRefusal::OutsideCertificate => QuestionRefusal::OutsideCertificate(Minute(minute)),
+    }
+}
+
+// Sea level pressure of the readings of a minute.
+fn sea_level(
+    store: &Store,
+    minute: u32,
+    readings: Readings,
+) -> Result<Hectopascals, QuestionRefusal>
+    requires { AreReadings (held store.now) minute readings }
+    ensures { WorksSeaLevel (held store.now) minute result }
+{
+    match pressure::sea_level_pressure(store, readings.barometer, readings.wheelhouse) {
+        Ok(p) => Ok(p),
+        Err(r) => Err(refused_at(minute, r)),
     }
 }
 
 // The pressure at sea level.
-pub fn pressure(store: &Store, minute: u32) -> PressureAnswer
+pub fn pressure(store: &Store, minute: u32) -> Result<Hectopascals, QuestionRefusal>
     ensures { TellsOf asked.pressure store.now minute result × (store.exit.now ≡ store.entry.now) }
 {
-    if !block::is_store(store) {
-        return PressureAnswer::Refused(QuestionRefusal::NoStore);
-    }
-    if !Minute::holds(minute) {
-        return PressureAnswer::Refused(QuestionRefusal::MinuteTooLate);
-    }
-    match sea_level_at(store, minute) {
-        AtMinute::NotKept(c) => {
-            PressureAnswer::Refused(QuestionRefusal::MissingReading(c, Minute(minute)))
-        }
-        AtMinute::Outside => {
-            PressureAnswer::Refused(QuestionRefusal::OutsideCertificate(Minute(minute)))
-        }
-        AtMinute::SeaLevel(p) => PressureAnswer::Given(p),
-    }
+    begin(store, minute)?;
+    let readings = readings_at(store, minute)?;
+    sea_level(store, minute, readings)
 }
 
 // Its change since three hours before, and how many barometer minutes between are absent.
-pub fn tendency(store: &Store, minute: u32) -> TendencyAnswer
+pub fn tendency(store: &Store, minute: u32) -> Result<PressureTendency, QuestionRefusal>
     ensures { TellsOf asked.tendency store.now minute result × (store.exit.now ≡ store.entry.now) }
 {
-    if !block::is_store(store) {
-        return TendencyAnswer::Refused(QuestionRefusal::NoStore);
-    }
-    if !Minute::holds(minute) {
-        return TendencyAnswer::Refused(QuestionRefusal::MinuteTooLate);
-    }
+    begin(store, minute)?;
     if minute < Minute::THREE_HOURS {
-        return TendencyAnswer::Refused(QuestionRefusal::NoThreeHours);
+        return Err(QuestionRefusal::NoThreeHours);
     }
     let before = minute - Minute::THREE_HOURS;
-    let earlier = sea_level_at(store, before);
-    let later = sea_level_at(store, minute);
-    if let AtMinute::NotKept(c) = earlier {
-        return TendencyAnswer::Refused(QuestionRefusal::MissingReading(c, Minute(before)));
-    }
-    if let AtMinute::NotKept(c) = later {
-        return TendencyAnswer::Refused(QuestionRefusal::MissingReading(c, Minute(minute)));
-    }
-    let AtMinute::SeaLevel(p) = earlier else {
-        return TendencyAnswer::Refused(QuestionRefusal::OutsideCertificate(Minute(before)));
-    };
-    let AtMinute::SeaLevel(q) = later else {
-        return TendencyAnswer::Refused(QuestionRefusal::OutsideCertificate(Minute(minute)));
-    };
-    let was = p.0;
-    let is = q.0;
-    TendencyAnswer::Given(
-        Hectopascals(is.minus(was)),
-        store::missing_minutes(store, 0, minute),
-    )
+    let earlier = readings_at(store, before)?;
+    let later = readings_at(store, minute)?;
+    let was = sea_level(store, before, earlier)?;
+    let is = sea_level(store, minute, later)?;
+    Ok(PressureTendency {
+        change: Hectopascals(is.0.minus(was.0)),
+        absent: store::missing_minutes(store, 0, minute),
+    })
 }
 
 // ---- wind
 
 // The true wind.
-pub fn wind(store: &Store, minute: u32) -> WindAnswer
+pub fn wind(store: &Store, minute: u32) -> Result<Wind, QuestionRefusal>
     ensures { TellsOf asked.wind store.now minute result × (store.exit.now ≡ store.entry.now) }
 {
-    if !block::is_store(store) {
-        return WindAnswer::Refused(QuestionRefusal::NoStore);
-    }
-    if !Minute::holds(minute) {
-        return WindAnswer::Refused(QuestionRefusal::MinuteTooLate);
-    }
-    let Recalled::Kept(felt) = store::recall(store, 2, minute) else {
-        return WindAnswer::Refused(QuestionRefusal::MissingReading(2, Minute(minute)));
-    };
-    let Reading::ApparentWind(apparent, from_bow) = felt else {
-        return WindAnswer::Refused(QuestionRefusal::MissingReading(2, Minute(minute)));
-    };
-    let Recalled::Kept(moved) = store::recall(store, 3, minute) else {
-        return WindAnswer::Refused(QuestionRefusal::MissingReading(3, Minute(minute)));
-    };
-    let Reading::ShipMotion(ship, course) = moved else {
-        return WindAnswer::Refused(QuestionRefusal::MissingReading(3, Minute(minute)));
-    };
-    match wind::true_wind(course, ship, apparent, from_bow) {
-        TrueWind::Blows(v, d) => WindAnswer::Given(v, d),
-        TrueWind::OutsideLimits => WindAnswer::Refused(QuestionRefusal::OutsideLimits),
-    }
+    begin(store, minute)?;
+    let (apparent, from_bow) = felt_at(store, minute).ok_or(QuestionRefusal::MissingReading(
+        2,
+        Minute(minute),
+    ))?;
+    let (ship, course) = motion_at(store, minute).ok_or(QuestionRefusal::MissingReading(
+        3,
+        Minute(minute),
+    ))?;
+    wind::true_wind(course, ship, apparent, from_bow).ok_or(QuestionRefusal::OutsideLimits)
 }
 
 // ---- humidity
 
+// The pressure at the station of what the barometer shows at a minute.
+fn station_pressure(
+    store: &Store,
+    minute: u32,
+    reading: BarometerReading,
+) -> Result<Hectopascals, QuestionRefusal>
+    requires { recall_of store.now 0 minute ≡ recalled (entry_of minute (barometer_is reading)) }
+    ensures { WorksStation (held store.now) minute result }
+{
+    match pressure::station_pressure(store, reading) {
+        Ok(p) => Ok(p),
+        Err(r) => Err(refused_at(minute, r)),
+    }
+}
+
 // Vapour pressure, saturation, deficit, relative humidity and dew point.
-pub fn humidity(store: &Store, minute: u32) -> HumidityAnswer
+pub fn humidity(store: &Store, minute: u32) -> Result<HumidityFigures, QuestionRefusal>
     ensures { TellsOf asked.humidity store.now minute result × (store.exit.now ≡ store.entry.now) }
 {
-    if !block::is_store(store) {
-        return HumidityAnswer::Refused(QuestionRefusal::NoStore);
-    }
-    if !Minute::holds(minute) {
-        return HumidityAnswer::Refused(QuestionRefusal::MinuteTooLate);
-    }
-    let Shown::Shows(reading) = barometer_at(store, minute) else {
-        return HumidityAnswer::Refused(QuestionRefusal::MissingReading(0, Minute(minute)));
-    };
-    let Recalled::Kept(in_air) = store::recall(store, 4, minute) else {
-        return HumidityAnswer::Refused(QuestionRefusal::MissingReading(4, Minute(minute)));
-    };
-    let Reading::DryBulb(dry) = in_air else {
-        return HumidityAnswer::Refused(QuestionRefusal::MissingReading(4, Minute(minute)));
-    };
-    let Recalled::Kept(on_wick) = store::recall(store, 5, minute) else {
-        return HumidityAnswer::Refused(QuestionRefusal::MissingReading(5, Minute(minute)));
-    };
-    let Reading::WetBulb(state, wet) = on_wick else {
-        return HumidityAnswer::Refused(QuestionRefusal::MissingReading(5, Minute(minute)));
-    };
-    match pressure::station_pressure(store, reading) {
-        WorkedPressure::Given(p) => {
-            match humidity::humidity(state, dry, wet, p, block::psychrometer(store)) {
-                Moisture::Given(h) => HumidityAnswer::Given(h),
-                Moisture::WetAboveDry => HumidityAnswer::Refused(QuestionRefusal::WetAboveDry),
-                Moisture::TooWarmForIce => HumidityAnswer::Refused(QuestionRefusal::TooWarmForIce),
-                Moisture::UnknownOutsideRange => {
-                    HumidityAnswer::Refused(QuestionRefusal::UnknownOutsideRange)
-                }
-                Moisture::AboveSaturation => {
-                    HumidityAnswer::Refused(QuestionRefusal::AboveSaturation)
-                }
-                Moisture::TooDry => HumidityAnswer::Refused(QuestionRefusal::TooDry),
-                Moisture::OutsideLimits => HumidityAnswer::Refused(QuestionRefusal::OutsideLimits),
-            }
-        }
-        WorkedPressure::OutsideLimits => HumidityAnswer::Refused(QuestionRefusal::OutsideLimits),
-        WorkedPressure::OutsideCertificate => {
-            HumidityAnswer::Refused(QuestionRefusal::OutsideCertificate(Minute(minute)))
-        }
-    }
+    begin(store, minute)?;
+    let reading = barometer_at(store, minute).ok_or(QuestionRefusal::MissingReading(
+        0,
+        Minute(minute),
+    ))?;
+    let dry = dry_bulb_at(store, minute).ok_or(QuestionRefusal::MissingReading(4, Minute(minute)))?;
+    let (state, wet) = wet_bulb_at(store, minute).ok_or(QuestionRefusal::MissingReading(
+        5,
+        Minute(minute),
+    ))?;
+    let p = station_pressure(store, minute, reading)?;
+    let figures = humidity::humidity(state, dry, wet, p, block::psychrometer(store))?;
+    Ok(figures)
 }

@@ -15,8 +15,9 @@ use Rattle.cell.specs.Cells.{CHANNELS, cell_of}
 use Rattle.block.specs.Layout.{WORDS}
 use Rattle.block.specs.Words.{is_store, unit_of, window_of, replaced}
 use Rattle.store.specs.Block.{newest_tests, next_in, kept_by, hearing, heard_by, heard_as, outcome, offered, Keeps, Hears}
-use Rattle.store.specs.declared.Hearing.{Hearing}
-use Rattle.store.specs.declared.Hearing.TheVariants.{Heard, Refused, NoStore}
+use Rattle.std.specs.Prelude.{Result, Ok, Err}
+use Rattle.store.specs.declared.HearingRefusal.{HearingRefusal}
+use Rattle.store.specs.declared.HearingRefusal.TheVariants.{Message, NoStore}
 use Rattle.block.proofs.BlockLaws.{window_long}
 use Rattle.store.proofs.NewestLaws.{later, not_later}
 use Rattle.store.proofs.HearingLaws.{hears_nothing, hearing_refused, hearing_given}
@@ -38,28 +39,28 @@ module _ (s : List ℕ) (c t v : ℕ) (long : length s ≡ WORDS) (low : c < CHA
 -- ---- one entry, whose channel, minute and cell were worked out apart
 
 module _ (s : List ℕ) (e : Entry) (c t : ℕ) (p : c ≡ e.channel) (q : t ≡ e.minute) where
-  pub offered_heard : (v : ℕ) → v ≡ cell_of e → next_in s c ≤ t → Keeps s (replaced s c (accepted (window_of c s) t v)) e Heard
+  pub offered_heard : (v : ℕ) → v ≡ cell_of e → next_in s c ≤ t → Keeps s (replaced s c (accepted (window_of c s) t v)) e (Ok tt)
   offered_heard v k l =
       let is : offered s e ≡ given e = later (next_in s e.channel) e.minute e (rw (p, q) at l) in
       record { answer = rw is; block = rw is (rw (p, q, k)) }
 
-  pub offered_refused : (h : Hearing) → t < next_in s c → heard_as h ≡ outcome (answer (newest_tests (next_in s c) t) e) → Keeps s s e h
+  pub offered_refused : (h : Result (Unit {0}) HearingRefusal) → t < next_in s c → heard_as h ≡ outcome (answer (newest_tests (next_in s c) t) e) → Keeps s s e h
   offered_refused h l told =
       let is = not_later (next_in s e.channel) e.minute e (rw (p, q) at l) in
       record { answer = rw (p, q) at told; block = sym (ap (kept_by s) is.1) }
 
 -- ---- a message
 
-pub hears_unopened : (s m : List ℕ) → is_store s ≡ false → Hears s s m NoStore
+pub hears_unopened : (s m : List ℕ) → is_store s ≡ false → Hears s s m (Err NoStore)
 unfolding heard_by
 hears_unopened s m is = let h = hears_nothing s m is in record { answer = rw h; block = rw h }
 
 module _ (s m : List ℕ) (is : is_store s ≡ true) where
-  pub hears_refused : (r : MessageRefusal) → received (unit_of s) m ≡ refused (number_of r) → Hears s s m (Refused r)
+  pub hears_refused : (r : MessageRefusal) → received (unit_of s) m ≡ refused (number_of r) → Hears s s m (Err (Message r))
   unfolding heard_by
   hears_refused r e = let h = hearing_refused s m is (number_of r) e in record { answer = rw h; block = rw h }
 
-  pub hears_kept : (s' : List ℕ) (e : Entry) (h : Hearing) → received (unit_of s) m ≡ given e → Keeps s s' e h → Hears s s' m h
+  pub hears_kept : (s' : List ℕ) (e : Entry) (h : Result (Unit {0}) HearingRefusal) → received (unit_of s) m ≡ given e → Keeps s s' e h → Hears s s' m h
   unfolding heard_by
   hears_kept s' e h g k =
       let a : hearing s m ≡ offered s e = hearing_given s m is e g in

@@ -19,8 +19,7 @@ use Rattle.settings.specs.declared.Settings.{Settings}
 use Rattle.window.specs.Layout.{MINUTES, WINDOW}
 use Rattle.window.specs.Window.{next, present, accepted}
 use Rattle.window.specs.Window as window
-use Rattle.window.specs.declared.Found.{Found}
-use Rattle.window.specs.declared.Found.TheVariants.{Absent, Cell}
+use Rattle.std.specs.Prelude.{Option, Some, None}
 use Rattle.window.proofs.PresentLaws.{present_late}
 use Rattle.window.proofs.KeptLaws.{absent_kept, length_after, next_after, present_after, kept_after}
 use Rattle.cell.specs.Cells.{CHANNELS, is_present}
@@ -109,9 +108,9 @@ present_cond true b p e r q = refl
 present_cond false true p e r q = q
 present_cond false false p e r q = refl
 
-recall_cond : (u : BarometerUnit) (c j v : ℕ) (k : Found) (e : Entry) (r : Recall) (a b : Bool)
-    → (a ≡ true → recall_in u c j (Cell v) ≡ recalled e) → recall_in u c j k ≡ r
-    → recall_in u c j (cond a (Cell v) (cond b k Absent)) ≡ cond a (recalled e) (cond b r absent)
+recall_cond : (u : BarometerUnit) (c j v : ℕ) (k : Option ℕ) (e : Entry) (r : Recall) (a b : Bool)
+    → (a ≡ true → recall_in u c j (Some v) ≡ recalled e) → recall_in u c j k ≡ r
+    → recall_in u c j (cond a (Some v) (cond b k None)) ≡ cond a (recalled e) (cond b r absent)
 recall_cond u c j v k e r true b own q = own refl
 recall_cond u c j v k e r false true own q = q
 recall_cond u c j v k e r false false own q = refl
@@ -142,9 +141,9 @@ means_more u e w H long back l k = record {
       ∙ sym (remembered_step e H j l);
 }
   where
-    own : (j : ℕ) → eqb j e.minute ≡ true → recall_in u e.channel j (Cell (cell_of e)) ≡ recalled e
+    own : (j : ℕ) → eqb j e.minute ≡ true → recall_in u e.channel j (Some (cell_of e)) ≡ recalled e
     own j q =
-        ap (λ (i : ℕ). recall_in u e.channel i (Cell (cell_of e))) (eqb-true j e.minute q)
+        ap (λ (i : ℕ). recall_in u e.channel i (Some (cell_of e))) (eqb-true j e.minute q)
         ∙ ap (λ (x : Bool). cond x (recalled (entry_in u e.channel e.minute (cell_of e))) absent) back.sound
         ∙ ap recalled back.same
 

@@ -9,14 +9,15 @@ use Rattle.message.specs.Receive.{Entry, received}
 use Rattle.settings.specs.declared.Settings.{Settings}
 use Rattle.store.specs.Block.{newest_tests, outcome, Hears}
 use Rattle.store.specs.History.{Sent, next_of, history, Remembers}
-use Rattle.store.specs.declared.Hearing.{Hearing}
-use Rattle.store.specs.declared.Hearing.TheVariants.{Heard, Repeated, Late}
+use Rattle.std.specs.Prelude.{Result, Ok, Err}
+use Rattle.store.specs.declared.HearingRefusal.{HearingRefusal}
+use Rattle.store.specs.declared.HearingRefusal.TheVariants.{Repeated, Late}
 use Rattle.store.proofs.NewestLaws.{later, repeated, late}
 use Rattle.store.proofs.HistoryLaws.{by_newest}
 use Rattle.store.proofs.SingleAnswers.{hearing_of, hearing_back}
 
 module _ (s : List ℕ) (g : Settings) (M : List Sent) (r : Remembers s g M) (m : List ℕ) (e : Entry) (is : received g.unit m ≡ given e)
-    (s' : List ℕ) (h : Hearing) (hears : Hears s s' m h) where
+    (s' : List ℕ) (h : Result (Unit {0}) HearingRefusal) (hears : Hears s s' m h) where
   told : (H : List Entry) → history g e.channel M ≡ H → (a : Answer Numbered Entry) → answer (newest_tests (next_of H) e.minute) e ≡ a
       → h ≡ hearing_of (outcome a)
   told H accepted a told-as =
@@ -26,21 +27,21 @@ module _ (s : List ℕ) (g : Settings) (M : List Sent) (r : Remembers s g M) (m 
       ∙ ap (λ (x : Answer Numbered Entry). hearing_of (outcome x)) (by_newest g s M m r e is ∙ newest ∙ told-as)
 
   -- The first message of a channel gets neither.
-  pub first_is_heard : history g e.channel M ≡ [] → h ≡ Heard
+  pub first_is_heard : history g e.channel M ≡ [] → h ≡ Ok tt
   unfolding hearing_of
   first_is_heard none = told [] none (given e) (later 0 e.minute e (omega arith))
 
   module _ (newest : Entry) (H : List Entry) (accepted : history g e.channel M ≡ newest ∷ H) where
-    pub later_is_heard : newest.minute < e.minute → h ≡ Heard
+    pub later_is_heard : newest.minute < e.minute → h ≡ Ok tt
     unfolding hearing_of
     later_is_heard l = told (newest ∷ H) accepted (given e) (later (newest.minute + 1) e.minute e (omega arith))
 
-    pub equal_is_repeated : e.minute ≡ newest.minute → h ≡ Repeated
+    pub equal_is_repeated : e.minute ≡ newest.minute → h ≡ Err Repeated
     unfolding hearing_of
     equal_is_repeated q = told (newest ∷ H) accepted _ (repeated (newest.minute + 1) e.minute e (omega arith))
 
-    pub earlier_is_late : e.minute < newest.minute → h ≡ Late (newest.minute - e.minute)
+    pub earlier_is_late : e.minute < newest.minute → h ≡ Err (Late (newest.minute - e.minute))
     unfolding hearing_of
     earlier_is_late l =
         let d : newest.minute + 1 - (e.minute + 1) ≡ newest.minute - e.minute = omega arith in
-        told (newest ∷ H) accepted _ (late (newest.minute + 1) e.minute e (omega arith)) ∙ ap Late d
+        told (newest ∷ H) accepted _ (late (newest.minute + 1) e.minute e (omega arith)) ∙ ap (λ (k : ℕ). Err (Late k)) d

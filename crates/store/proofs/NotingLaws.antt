@@ -14,10 +14,16 @@ use Rattle.message.specs.Receive.{Entry, m/s, deg}
 use Rattle.cell.specs.Cells.{is_present, in_degrees}
 use Rattle.block.specs.Layout.{NO_STORE}
 use Rattle.block.specs.Words.{is_store}
-use Rattle.anemometer.specs.Anemometer.{certificate_held, dial_holds, speed, no_speed, from_bow}
+use Rattle.std.specs.Prelude.{Option, Some, None, Result, Ok, Err}
+use Rattle.quantity.specs.declared.Degrees.{Degrees}
+use Rattle.quantity.specs.declared.MetresPerSecond.{MetresPerSecond}
+use Rattle.anemometer.specs.Anemometer.{certificate_held, dial_holds, speed, no_speed, from_bow, measured, measured_as}
+use Rattle.anemometer.specs.declared.DialRefusal.{DialRefusal}
+use Rattle.anemometer.specs.declared.DialRefusal.TheVariants.{OutsideDial, OutsideCertificate}
 use Rattle.anemometer.specs.declared.Note.{Note}
+use Rattle.anemometer.proofs.MeasuredLaws.{was_dial, was_certificate, was_speed}
 use Rattle.store.specs.Block.{newest_tests, next_in, kept, kept_by, wind_channel, course_channel}
-use Rattle.store.specs.Noting.{wind_entry, work_tests, note_tests, course_at, worked, noting, noted_by}
+use Rattle.store.specs.Noting.{wind_entry, work_tests, note_tests, course_at, worked, noting, noted_by, IsCourse}
 use Rattle.store.proofs.NewestLaws.{later, not_later}
 
 module _ (s : List ℕ) (n : Note) where
@@ -98,3 +104,31 @@ module _ (s : List ℕ) (n : Note) where
           → given (record { channel = wind_channel; minute = n.minute; first = m/s (pos v); second = deg (pos d) }) ≡ worked s n
       unfolding worked answer
       worked_wind h v d e f = rw (dial, there, h, e, f)
+
+-- the same by what the dial was told to say, and the course
+
+module _ (s : List ℕ) (n : Note) {told : Result MetresPerSecond DialRefusal} (says : measured_as told ≡ measured (certificate_held s) n) where
+  pub told_dial : told ≡ Err OutsideDial → refused (numbered 23 []) ≡ worked s n
+  told_dial e = worked_dial s n (was_dial (certificate_held s) n (rw e at says))
+
+  module _ {course : Option Degrees} (is : IsCourse (course_at s n) course) where
+    pub told_no_course : (told ≡ Err OutsideDial → ⊥) → course ≡ None → refused (numbered 11 (course_channel ∷ n.minute ∷ [])) ≡ worked s n
+    told_no_course not e = worked_no_course s n (dial told says not) (rw e at is)
+      where
+        dial : (t : Result MetresPerSecond DialRefusal) → measured_as t ≡ measured (certificate_held s) n → (t ≡ Err OutsideDial → ⊥) → dial_holds n ≡ true
+        dial (Ok v) h f = (was_speed (certificate_held s) n h).0
+        dial (Err OutsideDial) h f = absurd (f refl)
+        dial (Err OutsideCertificate) h f = (was_certificate (certificate_held s) n h).0
+
+    pub told_beyond : told ≡ Err OutsideCertificate → {ahead : Degrees} → course ≡ Some ahead → refused (numbered 24 []) ≡ worked s n
+    told_beyond e f =
+        let w = was_certificate (certificate_held s) n (rw e at says) in
+        let k = rw f at is in
+        worked_beyond s n w.0 k.0 w.1
+
+    pub told_wind : {v : MetresPerSecond} → told ≡ Ok v → {ahead : Degrees} → course ≡ Some ahead → (d : ℕ) → d ≡ from_bow n.direction ahead.0
+        → given (record { channel = wind_channel; minute = n.minute; first = m/s (pos v.0); second = deg (pos d) }) ≡ worked s n
+    told_wind {v} e f d g =
+        let w = was_speed (certificate_held s) n (rw e at says) in
+        let k = rw f at is in
+        worked_wind s n w.0 k.0 w.1 v.0 d w.2 (g ∙ ap (from_bow n.direction) (sym k.1))

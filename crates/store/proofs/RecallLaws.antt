@@ -6,6 +6,7 @@ use mathlib.Core.List.{List, [], ◌∷◌}
 use mathlib.Core.Logic.{inl, inr}
 use Prim.Native.Nat.{ℕ, ◌<◌}
 use types.Run.{OneOf}
+use Rattle.std.specs.Prelude.{Option, Some, None}
 use denote.Enum.Declared.{tag_of}
 use lib.Dec.{eqb}
 use lib.ListN.{get_or}
@@ -17,11 +18,7 @@ use Rattle.message.specs.declared.Reading.{Reading}
 use Rattle.message.specs.declared.Reading.TheVariants as reading
 use Rattle.message.specs.contracts.Reading.{the_type}
 use Rattle.window.specs.Window as window
-use Rattle.window.specs.declared.Found.{Found}
-use Rattle.window.specs.declared.Found.TheVariants.{Absent, Cell}
 use Rattle.cell.specs.Cells.{CHANNELS, entry_in, sound_in, Recall, absent, recalled, recalled_as, is_present}
-use Rattle.cell.specs.declared.Recalled.{Recalled}
-use Rattle.cell.specs.declared.Recalled.TheVariants.{Missing, Kept}
 use Rattle.block.specs.Words.{unit_of, window_of}
 use Rattle.store.specs.Block.{recall_in, recall_of}
 
@@ -31,9 +28,9 @@ pub record Sound (u : BarometerUnit) (c m : ℕ) (x : Recall) : Type 0 where
   pub sound : sound_in u c cell ≡ true
   pub is : x ≡ recalled (entry_in u c m cell)
 
-sound_in_lem : (u : BarometerUnit) (c m : ℕ) (f : Found) → is_present (recall_in u c m f) ≡ true → Sound u c m (recall_in u c m f)
-sound_in_lem u c m Absent e = never e
-sound_in_lem u c m (Cell v) e = go (sound_in u c v) refl e
+sound_in_lem : (u : BarometerUnit) (c m : ℕ) (f : Option ℕ) → is_present (recall_in u c m f) ≡ true → Sound u c m (recall_in u c m f)
+sound_in_lem u c m None e = never e
+sound_in_lem u c m (Some v) e = go (sound_in u c v) refl e
   where
     go : (b : Bool) → sound_in u c v ≡ b → is_present (cond b (recalled (entry_in u c m v)) absent) ≡ true → Sound u c m (cond b (recalled (entry_in u c m v)) absent)
     go true s e = record { cell = v; sound = s; is = refl }
@@ -79,15 +76,15 @@ none_of c n (k ∷ []) o i e = not_this c n k (and_true (not (eqb (channel_at k)
 none_of c n (k ∷ l ∷ ks) o (inl i) e = not_this c n k (and_true (not (eqb (channel_at k) c)) (others c (l ∷ ks)) o).0 i e
 none_of c n (k ∷ l ∷ ks) o (inr i) e = none_of c n (l ∷ ks) (and_true (not (eqb (channel_at k) c)) (others c (l ∷ ks)) o).1 i e
 
-module _ (s : List ℕ) (c m : ℕ) {x : Recalled} (told : recalled_as m x ≡ recall_of s c m) where
-  pub not_kept : x ≡ Missing → is_present (recall_of s c m) ≡ false
+module _ (s : List ℕ) (c m : ℕ) {x : Option Reading} (told : recalled_as m x ≡ recall_of s c m) where
+  pub not_kept : x ≡ None → is_present (recall_of s c m) ≡ false
   not_kept e = ap is_present (sym told ∙ ap (recalled_as m) e)
 
-  pub is_kept : {r : Reading} → x ≡ Kept r → recall_of s c m ≡ recalled (entry_of m r)
+  pub is_kept : {r : Reading} → x ≡ Some r → recall_of s c m ≡ recalled (entry_of m r)
   is_kept e = sym told ∙ ap (recalled_as m) e
 
   -- A reading of another channel's kind never comes of it.
-  pub no_other : {A : Type 0} (r : Reading) → c < CHANNELS → x ≡ Kept r → (ks : List ℕ) → others c ks ≡ true → OneOf ks (tag_of the_type r) → A
+  pub no_other : {A : Type 0} (r : Reading) → c < CHANNELS → x ≡ Some r → (ks : List ℕ) → others c ks ≡ true → OneOf ks (tag_of the_type r) → A
   no_other r low e ks o i =
       let is = is_kept e in
       absurd (none_of c (tag_of the_type r) ks o i (sym (case_channel m r) ∙ channel_is s c m low (ap is_present is) (entry_of m r) is))

@@ -14,8 +14,9 @@ use Rattle.settings.proofs.SingleAnswers.{case_of, case_back}
 use Rattle.cell.proofs.SingleAnswers.{recall_of_lem, recall_back}
 use Rattle.block.specs.Layout.{NO_STORE}
 use Rattle.store.specs.Block.{heard_as}
-use Rattle.store.specs.declared.Hearing.{Hearing}
-use Rattle.store.specs.declared.Hearing.TheVariants.{Heard, Refused, Repeated, Late, OutsideDial, NoCourse, OutsideAnemometer, NoStore}
+use Rattle.std.specs.Prelude.{Result, Ok, Err}
+use Rattle.store.specs.declared.HearingRefusal.{HearingRefusal}
+use Rattle.store.specs.declared.HearingRefusal.TheVariants.{Message, Repeated, Late, OutsideDial, NoCourse, OutsideAnemometer, NoStore}
 use Rattle.store.proofs.number.Reads as number
 use Rattle.store.proofs.«open».Reads as opening
 use Rattle.store.proofs.hear.Reads as hear
@@ -47,7 +48,7 @@ course_minute [] = record { 0 = 0 }
 course_minute (c ∷ []) = record { 0 = 0 }
 course_minute (c ∷ m ∷ more) = record { 0 = m }
 
-abbrev refused_of : ℕ → List ℕ → Hearing
+abbrev refused_of : ℕ → List ℕ → HearingRefusal
 refused_of n extra =
     cond (eqb n 8) Repeated
     (cond (eqb n 19) (Late (minutes_late extra))
@@ -55,31 +56,32 @@ refused_of n extra =
     (cond (eqb n 11) (NoCourse (course_minute extra))
     (cond (eqb n 24) OutsideAnemometer
     (cond (eqb n NO_STORE) NoStore
-    (Refused (refusal n)))))))
+    (Message (refusal n)))))))
 
-unfoldable pub hearing_of : Answer Numbered (Unit {0}) → Hearing
-hearing_of (refused r) = refused_of r.number r.extra
-hearing_of (given a) = Heard
+unfoldable pub hearing_of : Answer Numbered (Unit {0}) → Result (Unit {0}) HearingRefusal
+hearing_of (refused r) = Err (refused_of r.number r.extra)
+hearing_of (given a) = Ok tt
 
-pub hearing_back : (h : Hearing) → hearing_of (heard_as h) ≡ h
+refusal_back : (r : MessageRefusal) → hearing_of (heard_as (Err (Message r))) ≡ Err (Message r)
 unfolding hearing_of
-hearing_back Heard = refl
-hearing_back (Refused r) = go r
-  where
-    go : (r : MessageRefusal) → hearing_of (heard_as (Refused r)) ≡ Refused r
-    go NotSixteenBytes = refl
-    go NoSuchChannel = refl
-    go ByteNotZero = refl
-    go NoSuchState = refl
-    go MinuteTooLate = refl
-    go NotFinite = refl
-    go OutsideLimits = refl
-hearing_back Repeated = refl
-hearing_back (Late minutes) = refl
-hearing_back OutsideDial = refl
-hearing_back (NoCourse m) = refl
-hearing_back OutsideAnemometer = refl
-hearing_back NoStore = refl
+refusal_back NotSixteenBytes = refl
+refusal_back NoSuchChannel = refl
+refusal_back ByteNotZero = refl
+refusal_back NoSuchState = refl
+refusal_back MinuteTooLate = refl
+refusal_back NotFinite = refl
+refusal_back OutsideLimits = refl
+
+pub hearing_back : (h : Result (Unit {0}) HearingRefusal) → hearing_of (heard_as h) ≡ h
+unfolding hearing_of
+hearing_back (Ok u) = refl
+hearing_back (Err (Message r)) = refusal_back r
+hearing_back (Err Repeated) = refl
+hearing_back (Err (Late minutes)) = refl
+hearing_back (Err OutsideDial) = refl
+hearing_back (Err (NoCourse m)) = refl
+hearing_back (Err OutsideAnemometer) = refl
+hearing_back (Err NoStore) = refl
 
 pub single_hear : Single hear.Post
 single_hear κs a r r' s s' p q = sym (hearing_back r) ∙ ap hearing_of (p.answer ∙ sym q.answer) ∙ hearing_back r'

@@ -1,5 +1,5 @@
 -- What the store does, for any block whatever.
-use Rattle.std.specs.Prelude.{◌≡◌, Bool, true, false, not, cond, List, [], ◌∷◌, ◌++◌, ℕ, ◌+◌, ◌-◌, eqb, ltb}
+use Rattle.std.specs.Prelude.{◌≡◌, Bool, true, false, not, cond, List, [], ◌∷◌, ◌++◌, ℕ, ◌+◌, ◌-◌, eqb, ltb, Option, Some, None, Result, Ok, Err}
 use Rattle.number.specs.Refusal.{Numbered, numbered, Test, test, plain, Answer, refused, given, answer}
 use Rattle.quantity.specs.Limits.{minutes_between}
 use Rattle.quantity.specs.declared.BarometerUnit.{BarometerUnit}
@@ -10,13 +10,11 @@ use Rattle.settings.specs.Settings.{checked}
 use Rattle.settings.specs.declared.Settings.{Settings}
 use Rattle.window.specs.Window.{next, accepted, present, absents}
 use Rattle.window.specs.Window as window
-use Rattle.window.specs.declared.Found.{Found}
-use Rattle.window.specs.declared.Found.TheVariants.{Absent, Cell}
 use Rattle.cell.specs.Cells.{CHANNELS, cell_of, Recall, absent, cell_says}
 use Rattle.block.specs.Layout.{NO_STORE}
 use Rattle.block.specs.Words.{opened, is_store, unit_of, window_of, replaced}
-use Rattle.store.specs.declared.Hearing.{Hearing}
-use Rattle.store.specs.declared.Hearing.TheVariants.{Heard, Refused, Repeated, Late, OutsideDial, NoCourse, OutsideAnemometer, NoStore}
+use Rattle.store.specs.declared.HearingRefusal.{HearingRefusal}
+use Rattle.store.specs.declared.HearingRefusal.TheVariants.{Message, Repeated, Late, OutsideDial, NoCourse, OutsideAnemometer, NoStore}
 
 -- A block after an opening with these settings: "a refused opening gives no store", and leaves the block as it was.
 abbrev pub is_given : {R A : Type 0} → Answer R A → Bool
@@ -67,9 +65,9 @@ heard_by s m = kept_by s (hearing s m)
 -- ---- asking
 
 -- What a channel's window keeps of a minute, read by the channel.
-abbrev pub recall_in : BarometerUnit → ℕ → ℕ → Found → Recall
-recall_in u c m Absent = absent
-recall_in u c m (Cell v) = cell_says u c m v
+abbrev pub recall_in : BarometerUnit → ℕ → ℕ → Option ℕ → Recall
+recall_in u c m None = absent
+recall_in u c m (Some v) = cell_says u c m v
 
 unfoldable pub recall_of : List ℕ → ℕ → ℕ → Recall
 recall_of s c m = cond (ltb c CHANNELS) (recall_in (unit_of s) c m (window.kept (window_of c s) m)) absent
@@ -91,15 +89,18 @@ wind_channel = 2
 abbrev pub course_channel : ℕ
 course_channel = 3
 
-abbrev pub heard_as : Hearing → Answer Numbered (Unit {0})
-heard_as Heard = given tt
-heard_as (Refused r) = refused (numbered (number_of r) [])
-heard_as Repeated = refused (numbered 8 [])
-heard_as (Late minutes) = refused (numbered 19 (minutes ∷ []))
-heard_as OutsideDial = refused (numbered 23 [])
-heard_as (NoCourse m) = refused (numbered 11 (course_channel ∷ m.0 ∷ []))
-heard_as OutsideAnemometer = refused (numbered 24 [])
-heard_as NoStore = refused (numbered NO_STORE [])
+abbrev pub refusal_as : HearingRefusal → Numbered
+refusal_as (Message r) = numbered (number_of r) []
+refusal_as Repeated = numbered 8 []
+refusal_as (Late minutes) = numbered 19 (minutes ∷ [])
+refusal_as OutsideDial = numbered 23 []
+refusal_as (NoCourse m) = numbered 11 (course_channel ∷ m.0 ∷ [])
+refusal_as OutsideAnemometer = numbered 24 []
+refusal_as NoStore = numbered NO_STORE []
+
+abbrev pub heard_as : Result (Unit {0}) HearingRefusal → Answer Numbered (Unit {0})
+heard_as (Ok u) = given tt
+heard_as (Err h) = refused (refusal_as h)
 
 abbrev pub outcome : {R : Type 0} → Answer R Entry → Answer R (Unit {0})
 outcome (refused n) = refused n
@@ -110,11 +111,11 @@ abbrev pub offered : List ℕ → Entry → Answer Numbered Entry
 offered s e = answer (newest_tests (next_in s e.channel) e.minute) e
 
 -- An entry was offered to the store, and answered by h.
-pub record Keeps (s s' : List ℕ) (e : Entry) (h : Hearing) : Type 0 where
+pub record Keeps (s s' : List ℕ) (e : Entry) (h : Result (Unit {0}) HearingRefusal) : Type 0 where
   pub answer : heard_as h ≡ outcome (offered s e)
   pub block : s' ≡ kept_by s (offered s e)
 
 -- A message was heard, and answered by h.
-pub record Hears (s s' m : List ℕ) (h : Hearing) : Type 0 where
+pub record Hears (s s' m : List ℕ) (h : Result (Unit {0}) HearingRefusal) : Type 0 where
   pub answer : heard_as h ≡ outcome (hearing s m)
   pub block : s' ≡ heard_by s m

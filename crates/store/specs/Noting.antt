@@ -1,5 +1,5 @@
 -- What the store does with an entry of the hand anemometer (document 02, W5), for any block whatever.
-use Rattle.std.specs.Prelude.{◌≡◌, Bool, true, false, not, List, [], ◌∷◌, ◌++◌, ℕ, ltb, ℤ, pos}
+use Rattle.std.specs.Prelude.{◌≡◌, Bool, true, false, not, List, [], ◌∷◌, ◌++◌, ℕ, ltb, ℤ, pos, Option, Some, None, Result, Ok, Err}
 use Rattle.number.specs.Refusal.{Numbered, numbered, Test, test, Answer, refused, given, answer}
 use Rattle.quantity.specs.Limits.{last_minute, inside, degrees}
 use Rattle.message.specs.Receive.{Entry, m/s, deg, entry_of}
@@ -7,12 +7,10 @@ use Rattle.message.specs.declared.Reading.TheVariants.{ApparentWind}
 use Rattle.cell.specs.Cells.{Recall, is_present, in_degrees}
 use Rattle.anemometer.specs.Anemometer.{Certificate, certificate_held, dial_holds, speed, no_speed, from_bow}
 use Rattle.anemometer.specs.declared.Note.{Note}
-use Rattle.store.specs.Block.{newest_tests, next_in, no_store, kept_by, recall_of, heard_as, outcome, wind_channel, course_channel}
-use Rattle.store.specs.declared.Course.{Course}
-use Rattle.store.specs.declared.Course.TheVariants.{NoneThere, At}
-use Rattle.store.specs.declared.Hearing.{Hearing}
-use Rattle.store.specs.declared.Worked.{Worked}
-use Rattle.store.specs.declared.Worked.TheVariants.{Wind, OutsideDial, NoCourse, OutsideAnemometer}
+use Rattle.quantity.specs.declared.Degrees.{Degrees}
+use Rattle.quantity.specs.declared.MetresPerSecond.{MetresPerSecond}
+use Rattle.store.specs.Block.{newest_tests, next_in, no_store, kept_by, recall_of, refusal_as, heard_as, outcome, wind_channel, course_channel}
+use Rattle.store.specs.declared.HearingRefusal.{HearingRefusal}
 
 -- What an entry is kept as: "a second way to feed channel 2". The course is what is kept of channel 3 at its minute.
 abbrev pub wind_entry : Certificate → Recall → Note → Entry
@@ -60,18 +58,16 @@ unfoldable pub noted_by : List ℕ → Note → List ℕ
 noted_by s n = kept_by s (noting s n)
 
 -- The documents' number and values of each case.
-abbrev pub worked_as : ℕ → Worked → Answer Numbered Entry
-worked_as m (Wind v d) = given (entry_of m (ApparentWind v d))
-worked_as m OutsideDial = refused (numbered 23 [])
-worked_as m NoCourse = refused (numbered 11 (course_channel ∷ m ∷ []))
-worked_as m OutsideAnemometer = refused (numbered 24 [])
+abbrev pub worked_as : ℕ → Result (MetresPerSecond × Degrees) HearingRefusal → Answer Numbered Entry
+worked_as m (Ok wind) = given (entry_of m (ApparentWind wind.0 wind.1))
+worked_as m (Err h) = refused (refusal_as h)
 
 -- What is kept of a minute, as a course.
-abbrev pub IsCourse : Recall → Course → Type 0
-IsCourse x NoneThere = is_present x ≡ false
-IsCourse x (At d) = (is_present x ≡ true) × (in_degrees x ≡ d.0)
+abbrev pub IsCourse : Recall → Option Degrees → Type 0
+IsCourse x None = is_present x ≡ false
+IsCourse x (Some d) = (is_present x ≡ true) × (in_degrees x ≡ d.0)
 
 -- An entry was heard, and answered by h.
-pub record Notes (s s' : List ℕ) (n : Note) (h : Hearing) : Type 0 where
+pub record Notes (s s' : List ℕ) (n : Note) (h : Result (Unit {0}) HearingRefusal) : Type 0 where
   pub answer : heard_as h ≡ outcome (noting s n)
   pub block : s' ≡ noted_by s n

@@ -12,8 +12,9 @@ use lib.Signed.{lt_z}
 use lib.ListN.{length, length-append}
 use borrow.Author.Tests.{ltb-true, ltb-false, lt-ltb, le-ltb}
 use Rattle.number.proofs.Sizes.{impossible}
-use Rattle.text.specs.Text.{digit, digits, decimal, decimal_of, said, Put}
-use Rattle.text.proofs.PutLaws.{join}
+use Rattle.text.specs.declared.Page.{Page}
+use Rattle.text.specs.Text.{digit, digits, decimal, decimal_of, said, Puts}
+use Rattle.text.proofs.PutLaws.{then}
 
 -- a digit more is allowed than n says: the text is the same
 enough : (j k n : ℕ) → n < j → n < k → digits j n ≡ digits k n
@@ -40,12 +41,12 @@ decimal_more n h =
     rw (le-ltb n 10 h) (ap (λ (x : List ℕ). x ++ (digit (n % 10) ∷ [])) (enough n (suc (n / 10)) (n / 10) (omega arith) (omega arith)))
 
 -- the same, put
-pub put_one_digit : {b b₁ : List ℕ} {at k d : ℕ} (n : ℕ) → n < 10 → d ≡ digit (n % 10) → Put b b₁ at (d ∷ []) k → Put b b₁ at (decimal n) k
-put_one_digit n h e p = rw (decimal_one n h, sym e) p
+pub put_one_digit : {p q : Page} {d : ℕ} (n : ℕ) → n < 10 → d ≡ digit (n % 10) → Puts p q (d ∷ []) → Puts p q (decimal n)
+put_one_digit n h e a = rw (decimal_one n h, sym e) a
 
-pub put_last_digit : {b b₁ b₂ : List ℕ} {at k₁ k₂ d : ℕ} (n : ℕ) → 10 ≤ n → d ≡ digit (n % 10)
-    → Put b b₁ at (decimal (n / 10)) k₁ → Put b₁ b₂ k₁ (d ∷ []) k₂ → Put b b₂ at (decimal n) k₂
-put_last_digit n h e p q = rw (decimal_more n h, sym e) (join p q)
+pub put_last_digit : {p q r : Page} {d : ℕ} (n : ℕ) → 10 ≤ n → d ≡ digit (n % 10)
+    → Puts p q (decimal (n / 10)) → Puts q r (d ∷ []) → Puts p r (decimal n)
+put_last_digit n h e a b = rw (decimal_more n h, sym e) (then a b)
 
 -- a number below 10^k has at most k digits
 pub decimal_length : (k n : ℕ) → n < 10 ^ suc k → length (decimal n) ≤ suc k
@@ -62,16 +63,16 @@ unfolding decimal_of
 decimal_of-length k (pos n) h = omega (arith, decimal_length k n h)
 decimal_of-length k (negsuc n) h = omega (arith, decimal_length k (suc n) h)
 
-pub put_minus : {b b₁ b₂ : List ℕ} {at k₁ k₂ n : ℕ} (z : ℤ) → lt_z z (pos 0) ≡ true → n ≡ nat_abs z
-    → Put b b₁ at (45 ∷ []) k₁ → Put b₁ b₂ k₁ (decimal n) k₂ → Put b b₂ at (decimal_of z) k₂
+pub put_minus : {p q r : Page} {n : ℕ} (z : ℤ) → lt_z z (pos 0) ≡ true → n ≡ nat_abs z
+    → Puts p q (45 ∷ []) → Puts q r (decimal n) → Puts p r (decimal_of z)
 unfolding decimal_of
-put_minus (pos n) t e p q = absurd (omega (arith, ltb-true n 0 t))
-put_minus (negsuc n) t e p q = rw (sym e) (join p q)
+put_minus (pos n) t e a b = absurd (omega (arith, ltb-true n 0 t))
+put_minus (negsuc n) t e a b = rw (sym e) (then a b)
 
-pub put_plain : {b b₁ : List ℕ} {at k n : ℕ} (z : ℤ) → lt_z z (pos 0) ≡ false → n ≡ nat_abs z → Put b b₁ at (decimal n) k → Put b b₁ at (decimal_of z) k
+pub put_plain : {p q : Page} {n : ℕ} (z : ℤ) → lt_z z (pos 0) ≡ false → n ≡ nat_abs z → Puts p q (decimal n) → Puts p q (decimal_of z)
 unfolding decimal_of
-put_plain (pos n) t e p = rw (sym e) p
-put_plain (negsuc n) t e p = impossible (cc)
+put_plain (pos n) t e a = rw (sym e) a
+put_plain (negsuc n) t e a = impossible (cc)
 
 -- ---- the digits say the number
 

@@ -8,10 +8,12 @@ use native.Mathlib.Omega.{arith}
 use native.Mathlib.Nat.{add-zero, zero-add}
 use native.Mathlib.Numerals.{add-one}
 use lib.Dec.{leb}
-use lib.ListN.{length, take, drop, set, get_or, length-append, drop_of_length-le}
+use lib.ListN.{length, take, drop, set, get_or, length-append, length-take, drop_of_length-le}
 use lib.Seq.{sets, sets-eq, length-sets, set_out, drop-cons}
+use Rattle.std.proofs.lemmas.List.{take-append-drop, drop-drop, append_assoc}
 use borrow.Author.Tests.{leb-true, leb-false}
-use Rattle.text.specs.Text.{put, behind, Put}
+use Rattle.text.specs.declared.Page.{Page}
+use Rattle.text.specs.Text.{put, behind, Put, Puts}
 
 pub length_put : (b : List ℕ) (at : ℕ) (xs : List ℕ) → length (put b at xs) ≡ length b
 unfolding put
@@ -109,3 +111,30 @@ pub put_front : {b b₁ xs : List ℕ} {k : ℕ} → Put b b₁ 0 xs k → lengt
 put_front {b} {b₁} {xs} {k} p h =
     let inside : 0 + length xs ≤ length b = omega arith in
     (p.laid ∙ put_whole b 0 xs inside ∙ rw (zero-add (length xs)), p.next ∙ behind_whole b 0 xs inside ∙ zero-add (length xs))
+
+-- bytes put as far as they have room: so many of them between what stands before and behind
+pub put_fitting : (b : List ℕ) (at k : ℕ) (xs : List ℕ) → at ≤ length b → k ≡ min (length xs) (length b - at)
+    → take at b ++ (take k xs ++ drop k (drop at b)) ≡ put b at xs
+unfolding put
+put_fitting b at k xs h e =
+    ap (λ (l : List ℕ). take at b ++ (take k xs ++ l)) (drop-drop k at b ∙ ap (λ (n : ℕ). drop n b) (omega (arith, long)))
+    ∙ sym (append_assoc (take at b) (take k xs) (drop (at + length (take k xs)) b))
+    ∙ sym (put_whole b at (take k xs) (omega (arith, long)))
+    ∙ rest (leb (length xs) k) refl
+    ∙ sym (sets_append b at (take k xs) (drop k xs))
+    ∙ ap (sets b at) (take-append-drop k xs)
+  where
+    long : length (take k xs) ≡ k
+    long = length-take k xs ∙ omega arith
+
+    rest : (t : Bool) → leb (length xs) k ≡ t → sets b at (take k xs) ≡ sets (sets b at (take k xs)) (at + length (take k xs)) (drop k xs)
+    rest true q = rw (drop_of_length-le xs (leb-true (length xs) k q))
+    rest false q =
+        sym (sets_out (sets b at (take k xs)) (at + length (take k xs)) (drop k xs)
+        (omega (arith, long, length-sets b at (take k xs), leb-false (length xs) k q)))
+
+-- ---- pages
+
+-- one text behind another
+pub then : {p q r : Page} {xs ys : List ℕ} → Puts p q xs → Puts q r ys → Puts p r (xs ++ ys)
+then a b = record { put = join a.put b.put; lent = b.lent ∙ a.lent }

@@ -1,47 +1,48 @@
--- Each public contract of this crate allows a single answer: each gives the place behind the text and the bytes of the buffer as
--- functions of the arguments. Assumes nothing.
-use mathlib.Core.Path.{sym, ◌∙◌}
+-- Each public contract of this crate allows a single answer: a new page is one, and each text that is put leaves one page, its place and
+-- its bytes. Assumes nothing.
+use mathlib.Core.Path.{◌≡◌, sym, ap₂, ◌∙◌}
+use mathlib.Core.List.{List, ◌∷◌}
+use Prim.Native.Nat.{ℕ}
 use Rattle.number.specs.Single.{Single, SingleLeft}
-use Rattle.text.proofs.put_byte.Reads as put_byte
-use Rattle.text.proofs.put_natural.Reads as put-natural
-use Rattle.text.proofs.put_number.Reads as put-number
-use Rattle.text.proofs.put_bytes.Reads as put-bytes
-use Rattle.text.proofs.put_field.Reads as put-field
-use Rattle.text.proofs.put_signed.Reads as put-signed
+use Rattle.std.specs.Borrow.{MutBor}
+use Rattle.text.specs.declared.Page.{Page}
+use Rattle.text.specs.Text.{IsPage, Puts}
+use Rattle.text.proofs.Page.new.Reads as page
+use Rattle.text.proofs.Page.byte.Reads as byte
+use Rattle.text.proofs.Page.bytes.Reads as bytes
+use Rattle.text.proofs.Page.natural.Reads as natural
+use Rattle.text.proofs.Page.number.Reads as number
+use Rattle.text.proofs.Page.field.Reads as field
+use Rattle.text.proofs.Page.signed.Reads as signed
 
-pub single_put_byte : Single put_byte.Post
-single_put_byte κs a r r' s s' p q = p.next ∙ sym q.next
+-- a page as words: the place, and the bytes
+abbrev pub words_of : Page → List ℕ
+words_of p = p.at ∷ p.text.now
 
--- the bytes behind the buffer's reference, at exit
-pub single_put_byte_text : SingleLeft put_byte.Post (λ κs s. s.0.now)
-single_put_byte_text κs a r r' s s' p q = p.laid ∙ sym q.laid
+pub left : {old p q : Page} {xs : List ℕ} → Puts old p xs → Puts old q xs → words_of p ≡ words_of q
+left a b = ap₂ ◌∷◌ (a.put.next ∙ sym b.put.next) (a.put.laid ∙ sym b.put.laid)
 
-pub single_put_natural : Single put-natural.Post
-single_put_natural κs a r r' s s' p q = p.next ∙ sym q.next
+page_of : MutBor (List ℕ) → ℕ → Page
+page_of text at = record { text = text; at = at }
 
-pub single_put_natural_text : SingleLeft put-natural.Post (λ κs s. s.0.now)
-single_put_natural_text κs a r r' s s' p q = p.laid ∙ sym q.laid
+pub single_new : Single page.Post
+unfolding page_of
+single_new κs a r r' s s' p q = ap₂ page_of (p.text ∙ sym q.text) (p.start ∙ sym q.start)
 
-pub single_put_number : Single put-number.Post
-single_put_number κs a r r' s s' p q = p.next ∙ sym q.next
+pub single_byte_page : SingleLeft byte.Post (λ κs s. words_of s.0.now)
+single_byte_page κs a r r' s s' p q = left p q
 
-pub single_put_number_text : SingleLeft put-number.Post (λ κs s. s.0.now)
-single_put_number_text κs a r r' s s' p q = p.laid ∙ sym q.laid
+pub single_bytes_page : SingleLeft bytes.Post (λ κs s. words_of s.0.now)
+single_bytes_page κs a r r' s s' p q = left p q
 
-pub single_put_bytes : Single put-bytes.Post
-single_put_bytes κs a r r' s s' p q = p.next ∙ sym q.next
+pub single_natural_page : SingleLeft natural.Post (λ κs s. words_of s.0.now)
+single_natural_page κs a r r' s s' p q = left p q
 
-pub single_put_bytes_text : SingleLeft put-bytes.Post (λ κs s. s.0.now)
-single_put_bytes_text κs a r r' s s' p q = p.laid ∙ sym q.laid
+pub single_number_page : SingleLeft number.Post (λ κs s. words_of s.0.now)
+single_number_page κs a r r' s s' p q = left p q
 
-pub single_put_field : Single put-field.Post
-single_put_field κs a r r' s s' p q = p.next ∙ sym q.next
+pub single_field_page : SingleLeft field.Post (λ κs s. words_of s.0.now)
+single_field_page κs a r r' s s' p q = left p q
 
-pub single_put_field_text : SingleLeft put-field.Post (λ κs s. s.0.now)
-single_put_field_text κs a r r' s s' p q = p.laid ∙ sym q.laid
-
-pub single_put_signed : Single put-signed.Post
-single_put_signed κs a r r' s s' p q = p.next ∙ sym q.next
-
-pub single_put_signed_text : SingleLeft put-signed.Post (λ κs s. s.0.now)
-single_put_signed_text κs a r r' s s' p q = p.laid ∙ sym q.laid
+pub single_signed_page : SingleLeft signed.Post (λ κs s. words_of s.0.now)
+single_signed_page κs a r r' s s' p q = left p q

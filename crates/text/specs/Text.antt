@@ -1,7 +1,9 @@
 -- Numbers as text, fields and ends of lines, and text laid into a lent buffer.
 use Rattle.std.specs.Prelude.{◌≡◌, cond, List, [], ◌∷◌, ◌++◌, ℕ, zero, suc, ◌+◌, ◌-◌, ◌*◌, ◌/◌, ◌%◌, min, ltb, ℤ, pos, negsuc, length}
 use Rattle.std.proofs.lemmas.List.Edits.{sets}
+use Rattle.std.specs.Borrow.{MutBor}
 use Rattle.text.specs.Letters.{letters}
+use Rattle.text.specs.declared.Page.{Page}
 
 -- The byte of a digit: 48 is "0".
 abbrev pub digit : ℕ → ℕ
@@ -49,3 +51,13 @@ behind buffer at text = min (at + length text) (length buffer)
 pub record Put (before after : List ℕ) (at : ℕ) (text : List ℕ) (place : ℕ) : Type 0 where
   pub laid : after ≡ put before at text
   pub next : place ≡ behind before at text
+
+-- A page of these lent bytes, on which nothing is put yet.
+pub record IsPage (page : Page) (lent : MutBor (List ℕ)) : Type 0 where
+  pub text : page.text ≡ lent
+  pub start : page.at ≡ 0
+
+-- A text was put on a page behind what is there, in the bytes that it was lent.
+pub record Puts (old new : Page) (text : List ℕ) : Type 0 where
+  pub put : Put old.text.now new.text.now old.at text new.at
+  pub lent : new.text.ghost_name ≡ old.text.ghost_name

@@ -1,21 +1,17 @@
-// Text into a lent buffer. What would lie beyond the buffer's end is cut off, so that a text can be put anywhere, and one text
-// behind another is the two of them joined.
+// Text into lent bytes. What would lie beyond their end is cut off, so that a text can be put anywhere, and one text behind another is the
+// two of them joined.
 #![tactic(auto)]
 
 ghost use Rattle.std.specs.Prelude.{[], ◌∷◌, ◌%◌, ◌≡◌};
-ghost use Rattle.text.specs.Text.{digit, decimal, decimal_of, field, field_of, Put};
+ghost use Rattle.text.specs.Text.{digit, decimal, decimal_of, field, field_of, IsPage, Puts};
 
 use number::Number;
 
-// Puts a byte at a place. The place behind it.
-pub fn put_byte(text: &mut [u8], at: usize, b: u8) -> usize
-    ensures { Put text.old text.new at (b ∷ []) result }
-{
-    if at < text.len() {
-        text[at] = b;
-        return at + 1;
-    }
-    text.len()
+// Lent bytes as a page of text, and the place behind what is put on it.
+#[derive(Drop)]
+pub struct Page<'a> {
+    pub text: &'a mut [u8],
+    pub at: usize,
 }
 
 // The byte of n's last digit.
@@ -25,59 +21,78 @@ fn last_digit(n: u64) -> u8
     48 + (n % 10) as u8
 }
 
-// Puts a number in decimal digits. The place behind them.
-#[tactic(auto, using(crate::proofs::DigitLaws::digit_laid, crate::proofs::DigitLaws::digit_next))]
-pub fn put_natural(text: &mut [u8], at: usize, n: u64) -> usize
-    ensures { Put text.old text.new at (decimal n) result }
-{
-    let last = last_digit(n);
-    if n < 10 {
-        return put_byte(text, at, last);
+impl<'a> Page<'a> {
+    // A page on which nothing is put yet.
+    pub fn new(text: &'a mut [u8]) -> Page<'a>
+        ensures { IsPage result text.entry }
+    {
+        Page { text, at: 0 }
     }
-    let behind = put_natural(text, at, n / 10);
-    put_byte(text, behind, last)
-}
 
-// Puts a number with its minus, where it has one. The place behind it.
-pub fn put_number(text: &mut [u8], at: usize, n: Number) -> usize
-    ensures { Put text.old text.new at (decimal_of n.v) result }
-{
-    let size = n.size();
-    if n.is_minus() {
-        let behind = put_byte(text, at, b'-');
-        return put_natural(text, behind, size);
+    // Puts a byte.
+    pub fn byte(&mut self, b: u8)
+        ensures { Puts self.old self.new (b ∷ []) }
+    {
+        if self.at < self.text.len() {
+            self.text[self.at] = b;
+            self.at += 1;
+        } else {
+            self.at = self.text.len();
+        }
     }
-    put_natural(text, at, size)
-}
 
-// Puts bytes as they are. The place behind them.
-pub fn put_bytes(text: &mut [u8], at: usize, bytes: &[u8]) -> usize
-    ensures { Put text.old text.new at bytes.now result }
-{
-    if text.len() <= at {
-        return text.len();
+    // Puts bytes as they are.
+    pub fn bytes(&mut self, bytes: &[u8])
+        ensures { Puts self.old self.new bytes.now }
+    {
+        if self.text.len() <= self.at {
+            self.at = self.text.len();
+            return;
+        }
+        let fitting = bytes.len().min(self.text.len() - self.at);
+        let end = self.at + fitting;
+        self.text[self.at..end].copy_from_slice(&bytes[..fitting]);
+        self.at = end;
     }
-    let fitting = number::smaller(bytes.len(), text.len() - at);
-    let mut i = 0;
-    while i < fitting {
-        text[at + i] = bytes[i];
-        i += 1;
+
+    // Puts a number in decimal digits.
+    pub fn natural(&mut self, n: u64)
+        ensures { Puts self.old self.new (decimal n) }
+    {
+        let last = last_digit(n);
+        let single = n < 10;
+        if single {
+            return self.byte(last);
+        }
+        self.natural(n / 10);
+        self.byte(last);
     }
-    at + fitting
-}
 
-// Puts a number behind a space. The place behind it.
-pub fn put_field(text: &mut [u8], at: usize, n: u64) -> usize
-    ensures { Put text.old text.new at (field n) result }
-{
-    let digits = put_byte(text, at, b' ');
-    put_natural(text, digits, n)
-}
+    // Puts a number with its minus, where it has one.
+    pub fn number(&mut self, n: Number)
+        ensures { Puts self.old self.new (decimal_of n.v) }
+    {
+        let size = n.size();
+        if n.is_minus() {
+            self.byte(b'-');
+            return self.natural(size);
+        }
+        self.natural(size);
+    }
 
-// Puts a number with its sign behind a space. The place behind it.
-pub fn put_signed(text: &mut [u8], at: usize, n: Number) -> usize
-    ensures { Put text.old text.new at (field_of n.v) result }
-{
-    let number = put_byte(text, at, b' ');
-    put_number(text, number, n)
+    // Puts a number behind a space.
+    pub fn field(&mut self, n: u64)
+        ensures { Puts self.old self.new (field n) }
+    {
+        self.byte(b' ');
+        self.natural(n);
+    }
+
+    // Puts a number with its sign behind a space.
+    pub fn signed(&mut self, n: Number)
+        ensures { Puts self.old self.new (field_of n.v) }
+    {
+        self.byte(b' ');
+        self.number(n);
+    }
 }

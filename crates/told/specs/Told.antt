@@ -1,8 +1,7 @@
 -- Answers as C sees them: the documents' number, what a refusal also returns, and figures; 0 for what there is not.
 use Rattle.std.specs.Prelude.{List, [], ◌∷◌, ℕ, ℤ, pos}
 use Rattle.number.specs.Refusal.{Numbered, Answer, refused, given}
-use Rattle.wind.specs.declared.TrueWind.{TrueWind}
-use Rattle.wind.specs.declared.TrueWind.TheVariants.{Blows, OutsideLimits}
+use Rattle.wind.specs.declared.Wind.{Wind}
 use Rattle.humidity.specs.declared.HumidityFigures.{HumidityFigures}
 use Rattle.station.specs.Told.{Change}
 use Rattle.station.specs.Questions.{Asked, question}
@@ -58,14 +57,9 @@ abbrev pub tendency_in : Answer Numbered Change → TendencyTold
 tendency_in (refused r) = record { refusal = refusal_in r; change = record { v = pos 0 }; absent = 0 }
 tendency_in (given t) = record { refusal = none; change = record { v = t.change }; absent = t.absent }
 
--- A wind outside limits is none: no answer gives it.
-abbrev pub wind_figures : TrueWind → WindTold
-wind_figures (Blows v d) = record { refusal = none; speed = v.0; direction = d.0 }
-wind_figures OutsideLimits = record { refusal = none; speed = 0; direction = 0 }
-
-abbrev pub wind_in : Answer Numbered TrueWind → WindTold
+abbrev pub wind_in : Answer Numbered Wind → WindTold
 wind_in (refused r) = record { refusal = refusal_in r; speed = 0; direction = 0 }
-wind_in (given w) = wind_figures w
+wind_in (given w) = record { refusal = none; speed = w.speed.0; direction = w.direction.0 }
 
 abbrev pub humidity_in : Answer Numbered HumidityFigures → HumidityTold
 humidity_in (refused r) = record { refusal = refusal_in r; e = 0; saturation = 0; deficit = 0; relative = 0; dew = record { v = pos 0 } }

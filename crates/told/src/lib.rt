@@ -7,11 +7,12 @@ ghost use Rattle.store.specs.Block.{heard_as};
 ghost use Rattle.station.specs.Told.{refusal_of, pressure_as, tendency_as, wind_as, humidity_as};
 ghost use Rattle.told.specs.Told.{heard_in, noted_in, refusal_in, pressure_in, tendency_in, wind_in, humidity_in};
 
+use humidity::HumidityFigures;
 use number::{Kept, Number};
-use station::{
-    HumidityAnswer, PressureAnswer, QuestionRefusal, Refused, TendencyAnswer, WindAnswer,
-};
-use store::Hearing;
+use quantity::Hectopascals;
+use station::{PressureTendency, QuestionRefusal, Refused};
+use store::HearingRefusal;
+use wind::Wind;
 
 // What hearing a message came to: the number, and the minutes where it was late, 19.
 #[repr(C)]
@@ -86,18 +87,18 @@ pub struct HumidityTold {
 // ---- hearing
 
 // What hearing an entry came to, as a number with what it also returns.
-pub fn noting_told(h: Hearing) -> NoteTold
+pub fn noting_told(h: Result<(), HearingRefusal>) -> NoteTold
     ensures { result ≡ noted_in (heard_as h) }
 {
     let number = store::number(h);
     match h {
-        Hearing::Late(late) => NoteTold {
+        Err(HearingRefusal::Late(late)) => NoteTold {
             number,
             channel: 0,
             minute: 0,
             late,
         },
-        Hearing::NoCourse(m) => NoteTold {
+        Err(HearingRefusal::NoCourse(m)) => NoteTold {
             number,
             channel: 3,
             minute: m.0,
@@ -113,7 +114,7 @@ pub fn noting_told(h: Hearing) -> NoteTold
 }
 
 // What hearing a message came to, as a number with the minutes that it was late.
-pub fn hearing_told(h: Hearing) -> HearTold
+pub fn hearing_told(h: Result<(), HearingRefusal>) -> HearTold
     ensures { result ≡ heard_in (heard_as h) }
 {
     let told = noting_told(h);
@@ -149,18 +150,15 @@ fn refusal_of(r: QuestionRefusal) -> Refusal
 }
 
 // The pressure of an answer, or why there is none.
-pub fn pressure_told(a: PressureAnswer) -> PressureTold
+pub fn pressure_told(a: Result<Hectopascals, QuestionRefusal>) -> PressureTold
     ensures { result ≡ pressure_in (pressure_as a) }
 {
     match a {
-        PressureAnswer::Given(p) => {
-            let pressure = p.0;
-            PressureTold {
-                refusal: NONE,
-                pressure,
-            }
-        }
-        PressureAnswer::Refused(r) => PressureTold {
+        Ok(p) => PressureTold {
+            refusal: NONE,
+            pressure: p.0,
+        },
+        Err(r) => PressureTold {
             refusal: refusal_of(r),
             pressure: Number { v: 0 },
         },
@@ -168,41 +166,34 @@ pub fn pressure_told(a: PressureAnswer) -> PressureTold
 }
 
 // The change of pressure and the absent minutes, or why there are none.
-pub fn tendency_told(a: TendencyAnswer) -> TendencyTold
+pub fn tendency_told(a: Result<PressureTendency, QuestionRefusal>) -> TendencyTold
     ensures { result ≡ tendency_in (tendency_as a) }
 {
     match a {
-        TendencyAnswer::Given(c, absent) => {
-            let change = c.0;
-            TendencyTold {
-                refusal: NONE,
-                change,
-                absent,
-            }
-        }
-        TendencyAnswer::Refused(r) => {
-            TendencyTold {
-                refusal: refusal_of(r),
-                change: Number { v: 0 },
-                absent: 0,
-            }
-        }
+        Ok(t) => TendencyTold {
+            refusal: NONE,
+            change: t.change.0,
+            absent: t.absent,
+        },
+        Err(r) => TendencyTold {
+            refusal: refusal_of(r),
+            change: Number { v: 0 },
+            absent: 0,
+        },
     }
 }
 
 // Speed and direction of the wind, or why there are none.
-pub fn wind_told(a: WindAnswer) -> WindTold
+pub fn wind_told(a: Result<Wind, QuestionRefusal>) -> WindTold
     ensures { result ≡ wind_in (wind_as a) }
 {
     match a {
-        WindAnswer::Given(v, d) => {
-            WindTold {
-                refusal: NONE,
-                speed: v.0,
-                direction: d.0,
-            }
-        }
-        WindAnswer::Refused(r) => WindTold {
+        Ok(w) => WindTold {
+            refusal: NONE,
+            speed: w.speed.0,
+            direction: w.direction.0,
+        },
+        Err(r) => WindTold {
             refusal: refusal_of(r),
             speed: 0,
             direction: 0,
@@ -211,26 +202,19 @@ pub fn wind_told(a: WindAnswer) -> WindTold
 }
 
 // The figures of humidity, or why there are none.
-pub fn humidity_told(a: HumidityAnswer) -> HumidityTold
+pub fn humidity_told(a: Result<HumidityFigures, QuestionRefusal>) -> HumidityTold
     ensures { result ≡ humidity_in (humidity_as a) }
 {
     match a {
-        HumidityAnswer::Given(h) => {
-            let e = h.e;
-            let saturation = h.saturation;
-            let deficit = h.deficit;
-            let t = h.dew;
-            let dew = t.0;
-            HumidityTold {
-                refusal: NONE,
-                e: e.0,
-                saturation: saturation.0,
-                deficit: deficit.0,
-                relative: h.relative,
-                dew,
-            }
-        }
-        HumidityAnswer::Refused(r) => HumidityTold {
+        Ok(h) => HumidityTold {
+            refusal: NONE,
+            e: h.e.0,
+            saturation: h.saturation.0,
+            deficit: h.deficit.0,
+            relative: h.relative,
+            dew: h.dew.0,
+        },
+        Err(r) => HumidityTold {
             refusal: refusal_of(r),
             e: 0,
             saturation: 0,

@@ -3,8 +3,8 @@
 
 ghost use Rattle.std.specs.Prelude.{◌<◌};
 
-use listing::Listed;
 use std::io;
+use text::Page;
 
 // The file of document 01.
 const EXAMPLE: [u8; 15] = [
@@ -73,8 +73,8 @@ fn say_first(rt: &impl Print, text: &[u8], n: usize) -> io::Result<()> {
 fn list(rt: &impl Print, file: &[u8]) -> io::Result<()> {
     let mut text = [0u8; listing::TEXT];
     match listing::list(file, &mut text) {
-        Listed::Text(n) => say_first(rt, &text, n),
-        Listed::TooShort(_) => say(rt, b"no room\n"),
+        Ok(n) => say_first(rt, &text, n),
+        Err(_) => say(rt, b"no room\n"),
     }
 }
 
@@ -100,6 +100,12 @@ fn store(file: &mut [u8], at: usize, byte: u8) {
     }
 }
 
+// Puts bytes at a place of a file, as far as they have room.
+fn put(file: &mut [u8], at: usize, bytes: &[u8]) {
+    let mut page = Page { text: file, at };
+    page.bytes(bytes);
+}
+
 // Shows the file of four kinds with another byte, and with another number in two bytes.
 fn byte(rt: &impl Print, words: &[u8], at: usize, to: u8) -> io::Result<()> {
     let mut file = FOUR;
@@ -110,7 +116,7 @@ fn byte(rt: &impl Print, words: &[u8], at: usize, to: u8) -> io::Result<()> {
 fn number(rt: &impl Print, words: &[u8], at: usize, to: u16) -> io::Result<()> {
     let mut file = FOUR;
     let two = octets::in_two(to);
-    text::put_bytes(&mut file, at, &two);
+    put(&mut file, at, &two);
     show(rt, words, &file)
 }
 
@@ -224,8 +230,8 @@ fn humidities(rt: &impl Print) -> io::Result<()> {
     byte(rt, b"the dew point one less", DEW, 115)?;
     let mut file = FOUR;
     let two = octets::in_two(13000);
-    text::put_bytes(&mut file, E, &two);
-    text::put_bytes(&mut file, SATURATION, &two);
+    put(&mut file, E, &two);
+    put(&mut file, SATURATION, &two);
     show(
         rt,
         b"e and saturation of 130.00, wrong at saturation",
@@ -256,10 +262,8 @@ fn cut(rt: &impl Print, n: usize) -> io::Result<()> {
 }
 
 fn cuts(rt: &impl Print) -> io::Result<()> {
-    let mut n = 0;
-    while n < 54 {
+    for n in 0..54 {
         cut(rt, n)?;
-        n += 1;
     }
     Ok(())
 }
@@ -267,7 +271,7 @@ fn cuts(rt: &impl Print) -> io::Result<()> {
 fn one_byte_more(rt: &impl Print) -> io::Result<()> {
     let mut file = [0u8; 55];
     let four = FOUR;
-    text::put_bytes(&mut file, 0, &four);
+    put(&mut file, 0, &four);
     show(rt, b"one byte more", &file)
 }
 
@@ -278,27 +282,25 @@ fn store_humidity(file: &mut [u8], i: u16)
     let at = 388 + 9 * i;
     let offset = octets::in_two(at);
     let minute = octets::in_two(1000 + i);
-    text::put_bytes(
+    put(
         file,
         4 + 8 * i as usize,
         &[4, 0, offset[0], offset[1], minute[0], minute[1], 0, 0],
     );
-    text::put_bytes(file, at as usize, &[0x56, 5, 0x1F, 9, 0xC9, 3, 59, 116, 0]);
+    put(file, at as usize, &[0x56, 5, 0x1F, 9, 0xC9, 3, 59, 116, 0]);
 }
 
 // Stores 48 humidities.
 fn store_humidities(file: &mut [u8]) {
-    let mut i: u16 = 0;
-    while i < 48 {
+    for i in 0..48 {
         store_humidity(file, i);
-        i += 1;
     }
 }
 
 // The longest file, 48 humidities, and a byte behind it.
 fn longest(rt: &impl Print) -> io::Result<()> {
     let mut file = [0u8; LONGEST + 1];
-    text::put_bytes(&mut file, 0, &[0x57, 0x54, 1, 48]);
+    put(&mut file, 0, &[0x57, 0x54, 1, 48]);
     store_humidities(&mut file);
     show_first(rt, b"48 records", &file, LONGEST)?;
     show(rt, b"48 records and a byte", &file)

@@ -1,49 +1,37 @@
--- Laws of values: a number above the least one of 32 bits fits 32 bits, what is made for each place, one after the other, fills a list,
--- and the words before `anemometer` are counted one by one. Assumes nothing.
-use mathlib.Core.Path.{◌≡◌, refl, ap, ◌∙◌}
-use mathlib.Core.Bool.{Bool, true, false, cond}
-use mathlib.Core.List.{List, append-nil}
+-- Laws of values: what is made for each place, one after the other, fills a list, and the words before `anemometer` are counted one by
+-- one. Assumes nothing.
+use mathlib.Core.Path.{◌≡◌, refl, sym, ap, ◌∙◌}
+use mathlib.Core.Bool.{true, false}
+use mathlib.Core.List.{List}
 use Prim.Native.Nat.{ℕ, zero, suc, ◌+◌, ◌-◌, ◌≤◌, ◌<◌}
+use native.Mathlib.Decide.{dec_lt}
 use native.Mathlib.Omega.{arith}
-use native.Mathlib.Numerals.{add-one}
-use lib.Dec.{ltb, eqb}
-use lib.IntN.{pos, negsuc, sub_ℕ}
-use lib.ListN.{length, set, drop_of_length-le, get_or-eq_default}
-use lib.Seq.{sets, sets-eq}
-use mir.Syntax.{w32}
-use mir.Val.{SFits}
-use borrow.Author.Tests.{ltb-true, ltb-false}
+use lib.Dec.{eqb}
+use lib.ListN.{get_or, length, get_or-eq_default}
+use lib.Seq.{ext_get_or}
+use native.Mathlib.Nat.{zero-add}
+use Rattle.std.specs.Fn.{Mut, Called}
+use Rattle.std.specs.Array.{IsFromFnResult}
+use Rattle.settings.proofs.MadeLaws.{made_at}
 use Rattle.values.specs.Values.{each, at, anemometer_word, before_word}
-
-pub kept_fits : (m : ℕ) → m < 4294967296 → SFits w32 (sub_ℕ m 2147483648)
-kept_fits m h = go (ltb m 2147483648) refl
-  where
-    go : (t : Bool) → ltb m 2147483648 ≡ t → SFits w32 (cond t (negsuc (2147483648 - suc m)) (pos (m - 2147483648)))
-    go true e = let l = ltb-true m 2147483648 e in record { sfits = omega arith }
-    go false e = let l = ltb-false m 2147483648 e in record { sfits = omega arith }
 
 length_each : {A : Type 0} (f : ℕ → A) (k n : ℕ) → length (each f k n) ≡ n
 unfolding each
 length_each f k zero = refl
 length_each f k (suc n) = ap suc (length_each f (suc k) n)
 
--- all of a list's places
-pub each_all : {A : Type 0} (f : ℕ → A) (l : List A) (n : ℕ) → length l ≡ n → sets l 0 (each f 0 n) ≡ each f 0 n
-each_all f l n h =
-    let e = length_each f 0 n in
-    let past : length l ≤ 0 + length (each f 0 n) = omega arith in
-    sets-eq (each f 0 n) l 0 (omega arith) ∙ rw (drop_of_length-le l past) (append-nil (each f 0 n))
-
--- the next place, and those behind it
-pub each_on : {A : Type 0} (f : ℕ → A) (l : List A) (i n : ℕ) → i < n → sets l i (each f i (n - i)) ≡ sets (set l i (f i)) (i + 1) (each f (i + 1) (n - (i + 1)))
+get_or-each : {A : Type 0} (f : ℕ → A) (d : A) (k n j : ℕ) → j < n → get_or (each f k n) j d ≡ f (k + j)
 unfolding each
-each_on f l i n h =
-    let e : n - i ≡ suc (n - (i + 1)) = omega arith in
-    rw (e, add-one i)
+get_or-each f d k zero j h = absurd (omega arith)
+get_or-each f d k (suc n) zero h = ap f (omega arith)
+get_or-each f d k (suc n) (suc j) h = get_or-each f d (suc k) n j (omega arith) ∙ ap f (omega arith)
 
-pub each_end : {A : Type 0} (f : ℕ → A) (l : List A) (i n : ℕ) → n ≤ i → sets l i (each f i (n - i)) ≡ l
-unfolding each
-each_end f l i n h = let e : n - i ≡ 0 = omega arith in rw e
+-- what `array::from_fn` makes
+module _ {A F : Type 0} {g : Mut F (ℕ × Unit {0}) A} {f : F} (made : ℕ → A) (top : ℕ) (none : A) where
+  pub each_made : (ys : List A) → IsFromFnResult g f ys top → ((i : ℕ) (y : A) (q : F) → i < top → Called g f (i, tt) y q → (q ≡ f) × (y ≡ made i)) → ys ≡ each made 0 top
+  each_made ys h called =
+      ext_get_or none ys (each made 0 top) (h.long ∙ sym (length_each made 0 top))
+      (λ k l. let b : k < top = omega (arith, h.long) in made_at made top none called ys h k b ∙ ap made (sym (zero-add k)) ∙ sym (get_or-each made none 0 top k b))
 
 -- ---- the words before `anemometer`
 
@@ -94,3 +82,19 @@ module _ (numbers : List ℕ) where
 
     pub before_past : i ≤ p → length numbers ≤ k → i + before_word numbers k (p - i) ≡ p
     before_past h l = omega (arith, past k (p - i) l)
+
+    -- at the end all p were looked at, or the numbers end
+    pub before_end : i ≤ p → (i < p → length numbers ≤ k) → i + before_word numbers k (p - i) ≡ p
+    before_end h l = go (dec_lt i p)
+      where
+        go : Dec (i < p) → i + before_word numbers k (p - i) ≡ p
+        go (yes b) = before_past h (l b)
+        go (no n) = before_all (omega arith)
+
+  -- `anemometer` stands within the numbers
+  pub within : (k : ℕ) → at numbers k ≡ anemometer_word → k < length numbers
+  within k e = go (dec_lt k (length numbers))
+    where
+      go : Dec (k < length numbers) → k < length numbers
+      go (yes l) = l
+      go (no n) = let zeros : at numbers k ≡ 0 = get_or-eq_default numbers 0 (omega arith) in absurd (omega (arith, zeros, e))

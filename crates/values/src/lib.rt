@@ -7,9 +7,10 @@ ghost use Rattle.values.specs.Values.{at, kept_of, count_of, unit_of, barometer_
 use number::{Kept, Number};
 use quantity::BarometerUnit;
 use settings::{
-    Anemometer, Correction, Height, POINTS, Point, PsychrometerCoefficient, RATES, Rate, RatePoint,
+    Anemometer, Correction, Height, Point, PsychrometerCoefficient, Rate, RatePoint,
     SeaLevelDifference, Settings, TemperatureCoefficient,
 };
+use std::array;
 use watchfile::{BLANK, Body, RECORDS, Record};
 
 // What the word `anemometer` of an `open` line is laid as: no number with a sign is.
@@ -19,10 +20,7 @@ pub const ANEMOMETER: u64 = 4294967296;
 fn at(numbers: &[u64], i: usize) -> u64
     ensures { result ≡ at numbers.now i }
 {
-    if i < numbers.len() {
-        return numbers[i];
-    }
-    0
+    numbers.get(i).copied().unwrap_or(0)
 }
 
 // The number with a sign that was laid as itself plus 2147483648.
@@ -30,57 +28,35 @@ fn kept_at(numbers: &[u64], i: usize) -> Kept
     ensures { result ≡ kept_of (at numbers.now i) }
 {
     let laid = Number::whole((at(numbers, i) % 4294967296) as u32);
-    let least = Number::whole(2147483648);
-    let difference = laid.minus(least);
-    let narrow = difference.v as i32;
-    Kept { v: narrow }
+    let number = laid.minus(Number { v: 2147483648 });
+    Kept { v: number.v as i32 }
 }
 
 // So many points, as a number of 32 bits.
 fn count_of(n: usize) -> u32
     ensures { result ≡ count_of n }
 {
-    if n < 4294967295 {
-        return n as u32;
-    }
-    4294967295
-}
-
-// a less b, and 0 where b is more.
-fn less(a: usize, b: usize) -> usize
-    ensures { result ≡ a - b }
-{
-    if a < b {
-        return 0;
-    }
-    a - b
+    u32::try_from(n).unwrap_or(u32::MAX)
 }
 
 fn unit_of(n: u64) -> BarometerUnit
     ensures { result ≡ unit_of n }
 {
-    if n == 0 {
-        return BarometerUnit::Hectopascals;
+    match n {
+        0 => BarometerUnit::Hectopascals,
+        _ => BarometerUnit::Millimetres,
     }
-    BarometerUnit::Millimetres
 }
 
 // How many words of an `open` line behind A stand before `anemometer`, or all. Where the word is there, it stands within the numbers.
 fn barometer_points(numbers: &[u64], words: usize) -> usize
     ensures { (result ≡ barometer_points numbers.now words) × (result < words - 5 → 5 + 2 * result < length numbers.now) }
 {
-    let points = less(words, 5);
-    let mut i: usize = 0;
-    let mut k: usize = 5;
-    while k < numbers.len() {
-        if i == points {
-            return points;
-        }
-        if numbers[k] == ANEMOMETER {
+    let points = words.saturating_sub(5);
+    for i in 0..points.min(numbers.len() / 2) {
+        if at(numbers, 5 + 2 * i) == ANEMOMETER {
             return i;
         }
-        i += 1;
-        k += 2;
     }
     points
 }
@@ -96,14 +72,10 @@ fn point_of(numbers: &[u64], b: usize, i: usize) -> Point
             correction: Correction(kept_at(numbers, 6 + 2 * i)),
         };
     }
-    let zero = Kept { v: 0 };
-    Point {
-        reading: zero,
-        correction: Correction(zero),
-    }
+    Point::NOWHERE
 }
 
-// Point i of an anemometer's certificate of n points, behind b points of the barometer.
+// Point i of an anemometer's certificate of n points, behind b points of the barometer. (A function of its own, as in crate `block`.)
 fn rate_point_of(numbers: &[u64], b: usize, n: usize, i: usize) -> RatePoint
     requires { (i < 20) × (i < n → 5 + 2 * b < length numbers.now) }
     ensures { result ≡ rate_point_of numbers.now b n i }
@@ -114,11 +86,7 @@ fn rate_point_of(numbers: &[u64], b: usize, n: usize, i: usize) -> RatePoint
             speed: kept_at(numbers, 8 + 2 * (b + i)),
         };
     }
-    let zero = Kept { v: 0 };
-    RatePoint {
-        rate: Rate(zero),
-        speed: zero,
-    }
+    RatePoint::NONE
 }
 
 // The body whose kind's letter, minute and fields stand from a place on.
@@ -126,29 +94,27 @@ fn body_of(numbers: &[u64], k: usize) -> Body
     requires { k < 4294967296 }
     ensures { result ≡ body_of numbers.now k }
 {
-    let kind = at(numbers, k);
-    if kind == 0x54 {
-        return Body::Tendency {
+    match at(numbers, k) {
+        // T
+        0x54 => Body::Tendency {
             change: kept_at(numbers, k + 2),
             absent: (at(numbers, k + 3) % 256) as u8,
-        };
-    }
-    if kind == 0x57 {
-        return Body::Wind {
+        },
+        // W
+        0x57 => Body::Wind {
             speed: (at(numbers, k + 2) % 65536) as u16,
             direction: (at(numbers, k + 3) % 65536) as u16,
-        };
-    }
-    if kind == 0x48 {
-        return Body::Humidity {
+        },
+        // H
+        0x48 => Body::Humidity {
             e: (at(numbers, k + 2) % 65536) as u16,
             saturation: (at(numbers, k + 3) % 65536) as u16,
             deficit: (at(numbers, k + 4) % 65536) as u16,
             relative: (at(numbers, k + 5) % 256) as u8,
             dew: kept_at(numbers, k + 6),
-        };
+        },
+        _ => Body::Pressure((at(numbers, k + 2) % 65536) as u16),
     }
-    Body::Pressure((at(numbers, k + 2) % 65536) as u16)
 }
 
 // Record i of a line with so many words.
@@ -170,42 +136,19 @@ fn anemometer_of(numbers: &[u64], words: usize, b: usize) -> Anemometer
     requires { b < words - 5 → 5 + 2 * b < length numbers.now }
     ensures { result ≡ anemometer_of numbers.now words b }
 {
-    let zero = Kept { v: 0 };
-    let none = RatePoint {
-        rate: Rate(zero),
-        speed: zero,
-    };
-    let n = less(less(words, 6), b);
-    let mut points = [none; RATES];
-    let mut i = 0;
-    while i < RATES {
-        let point = rate_point_of(numbers, b, n, i);
-        points[i] = point;
-        i += 1;
-    }
+    let n = words.saturating_sub(6).saturating_sub(b);
     Anemometer {
         count: count_of(n),
-        points,
+        points: array::from_fn(|i| rate_point_of(numbers, b, n, i)),
     }
 }
 
+// (`words` is no length of `numbers`: a line may have more words than there is room for numbers.)
 // The settings that the numbers of an `open` line say, which has so many words behind the name.
 pub fn settings_of(numbers: &[u64], words: usize) -> Settings
     ensures { result ≡ settings_of numbers.now words }
 {
-    let zero = Kept { v: 0 };
-    let nowhere = Point {
-        reading: zero,
-        correction: Correction(zero),
-    };
     let b = barometer_points(numbers, words);
-    let mut points = [nowhere; POINTS];
-    let mut i = 0;
-    while i < POINTS {
-        let point = point_of(numbers, b, i);
-        points[i] = point;
-        i += 1;
-    }
     Settings {
         unit: unit_of(at(numbers, 0)),
         height: Height(kept_at(numbers, 1)),
@@ -213,7 +156,7 @@ pub fn settings_of(numbers: &[u64], words: usize) -> Settings
         coefficient: TemperatureCoefficient(kept_at(numbers, 3)),
         psychrometer: PsychrometerCoefficient(kept_at(numbers, 4)),
         count: count_of(b),
-        points,
+        points: array::from_fn(|i| point_of(numbers, b, i)),
         anemometer: anemometer_of(numbers, words, b),
     }
 }
@@ -222,12 +165,5 @@ pub fn settings_of(numbers: &[u64], words: usize) -> Settings
 pub fn records_of(numbers: &[u64], words: usize) -> [Record; RECORDS]
     ensures { result ≡ records_of numbers.now words }
 {
-    let mut records = [BLANK; RECORDS];
-    let mut i = 0;
-    while i < RECORDS {
-        let record = record_of(numbers, words, i);
-        records[i] = record;
-        i += 1;
-    }
-    records
+    array::from_fn(|i| record_of(numbers, words, i))
 }

@@ -1,5 +1,6 @@
 -- Each public contract of this crate allows a single answer: a tenth has one entry, and a pressure one dew point. Assumes nothing.
-use mathlib.Core.Path.{◌≡◌, refl, sym, ap, ◌∙◌}
+use Rattle.std.specs.Prelude.{Option, Some, None}
+use mathlib.Core.Path.{◌≡◌, refl, sym, ap, ap₂, ◌∙◌}
 use mathlib.Core.Bool.{Bool, true, false}
 use Prim.Native.Nat.{ℕ}
 use lib.IntN.{ℤ}
@@ -10,11 +11,6 @@ use Rattle.vapour.specs.Vapour.{AreSaturations, IsOverIce, IsDew, TellsDew, wate
 use Rattle.vapour.specs.declared.VapourPressure.{VapourPressure}
 use Rattle.vapour.specs.declared.DewTemperature.{DewTemperature}
 use Rattle.vapour.specs.declared.Saturations.{Saturations}
-use Rattle.vapour.specs.declared.Saturations.TheVariants.{Entries, OutsideTable}
-use Rattle.vapour.specs.declared.OverIce.{OverIce}
-use Rattle.vapour.specs.declared.OverIce.TheVariants.{Entry, OutsideIceTable}
-use Rattle.vapour.specs.declared.Dew.{Dew}
-use Rattle.vapour.specs.declared.Dew.TheVariants.{Point, OutsideRange}
 use Rattle.vapour.proofs.SaturationLaws.{near_one}
 use Rattle.vapour.proofs.DewLaws.{dew_one}
 use Rattle.vapour.proofs.RangeLaws.{not_both}
@@ -38,26 +34,32 @@ dew_by e = ap make (kept_by e)
     make : Kept → DewTemperature
     make k = record { 0 = k }
 
-pub one_saturation : (dry wet : ℤ) (r r' : Saturations) → AreSaturations dry wet r → AreSaturations dry wet r' → r ≡ r'
-one_saturation dry wet (Entries d w) (Entries d' w') p q =
-    let x : d ≡ d' = pressure_by (near_one water dry d.0 d'.0 p.1 q.1) in
-    let y : w ≡ w' = pressure_by (near_one water wet w.0 w'.0 p.2 q.2) in
-    cc
-one_saturation dry wet (Entries d w) OutsideTable p q = absurd (not_both p.0 q)
-one_saturation dry wet OutsideTable (Entries d w) p q = absurd (not_both q.0 p)
-one_saturation dry wet OutsideTable OutsideTable p q = refl
+pub one_saturation : (dry wet : ℤ) (r r' : Option Saturations) → AreSaturations dry wet r → AreSaturations dry wet r' → r ≡ r'
+one_saturation dry wet (Some s) (Some s') p q = ap Some (ap₂ make dries wets)
+  where
+    make : VapourPressure → VapourPressure → Saturations
+    make dry wet = record { dry = dry; wet = wet }
 
-pub one_over_ice : (t : ℤ) (r r' : OverIce) → IsOverIce t r → IsOverIce t r' → r ≡ r'
-one_over_ice t (Entry e) (Entry e') p q = ap Entry (pressure_by (near_one ice t e.0 e'.0 p.1 q.1))
-one_over_ice t (Entry e) OutsideIceTable p q = absurd (not_both p.0 q)
-one_over_ice t OutsideIceTable (Entry e) p q = absurd (not_both q.0 p)
-one_over_ice t OutsideIceTable OutsideIceTable p q = refl
+    dries : s.dry ≡ s'.dry
+    dries = pressure_by (near_one water dry s.dry.0 s'.dry.0 p.1 q.1)
 
-pub one_dew : (e : ℕ) (r r' : Dew) → IsDew e r → IsDew e r' → r ≡ r'
-one_dew e (Point t) (Point t') p q = ap Point (dew_by (dew_one e t.0.v t'.0.v p.1 q.1))
-one_dew e (Point t) OutsideRange p q = absurd (not_both p.0 q)
-one_dew e OutsideRange (Point t) p q = absurd (not_both q.0 p)
-one_dew e OutsideRange OutsideRange p q = refl
+    wets : s.wet ≡ s'.wet
+    wets = pressure_by (near_one water wet s.wet.0 s'.wet.0 p.2 q.2)
+one_saturation dry wet (Some s) None p q = absurd (not_both p.0 q)
+one_saturation dry wet None (Some s) p q = absurd (not_both q.0 p)
+one_saturation dry wet None None p q = refl
+
+pub one_over_ice : (t : ℤ) (r r' : Option VapourPressure) → IsOverIce t r → IsOverIce t r' → r ≡ r'
+one_over_ice t (Some e) (Some e') p q = ap Some (pressure_by (near_one ice t e.0 e'.0 p.1 q.1))
+one_over_ice t (Some e) None p q = absurd (not_both p.0 q)
+one_over_ice t None (Some e) p q = absurd (not_both q.0 p)
+one_over_ice t None None p q = refl
+
+pub one_dew : (e : ℕ) (r r' : Option DewTemperature) → IsDew e r → IsDew e r' → r ≡ r'
+one_dew e (Some t) (Some t') p q = ap Some (dew_by (dew_one e t.0.v t'.0.v p.1 q.1))
+one_dew e (Some t) None p q = absurd (not_both p.0 q)
+one_dew e None (Some t) p q = absurd (not_both q.0 p)
+one_dew e None None p q = refl
 
 pub one_telling : (e : ℕ) (t : ℤ) (r r' : Bool) → TellsDew e t r → TellsDew e t r' → r ≡ r'
 one_telling e t true true p q = refl

@@ -1,40 +1,30 @@
 -- The tables' rules: one test over a whole list, carried to each entry; and the place of a tenth. Assumes nothing.
-use mathlib.Core.Path.{◌≡◌, refl, sym, ap, subst}
+use mathlib.Core.Path.{◌≡◌, sym, ap, subst}
 use mathlib.Core.Bool.{Bool, true}
 use mathlib.Core.List.{List}
 use Prim.Native.Nat.{ℕ, suc, ◌+◌, ◌-◌, ◌<◌, ◌≤◌}
 use native.Mathlib.Omega.{arith}
 use lib.Dec.{T, leb}
 use lib.IntN.{ℤ, pos, negsuc, nat_abs, ◌+ℤ◌}
-use lib.ListN.{length, get_or}
+use lib.ListN.{length}
 use lib.Signed.{le_z}
 use borrow.Author.Tests.{leb-true, le-leb, le-ltb, lt-ltb}
 use Rattle.number.proofs.Sizes.{and_true}
 use Rattle.quantity.specs.Limits.{inside, bulb, frost}
-use Rattle.vapour.specs.Vapour.{Formula, Near, AreSaturations, lowest_vapour, highest_vapour, water}
-use Rattle.vapour.specs.Tables.{tenth, EntriesAt}
-use Rattle.vapour.specs.declared.Saturations.{Saturations}
-use Rattle.vapour.specs.declared.Saturations.TheVariants.{Entries, OutsideTable}
-use Rattle.vapour.proofs.EachEntry.{every, at}
+use Rattle.vapour.specs.Vapour.{Formula, Near, lowest_vapour, highest_vapour, water}
+use Rattle.vapour.specs.Tables.{tenth}
+use Rattle.vapour.proofs.EachEntry.{entry, every, at}
 use Rattle.vapour.proofs.UpDown.{up, down, of_difference}
 use Rattle.vapour.proofs.SaturationLaws.{near_test, near_by_test, table_rises}
-
--- the entry at a place, shut, so that a law finds the list in a goal: `rw entry-is`, then a law on `entry _ _`
-pub entry : List ℕ → ℕ → ℕ
-entry xs k = get_or xs k 0
-
-pub entry_is : (xs : List ℕ) (k : ℕ) → get_or xs k 0 ≡ entry xs k
-unfolding entry
-entry_is xs k = refl
 
 unfoldable pub entry_test : Formula → ℕ → ℕ → Bool
 unfolding near_test
 entry_test f i r = near_test f (tenth i) r
 
 -- whatever the formula
-pub near_at : (f : Formula) (xs : List ℕ) (k : ℕ) → T (every (entry_test f) 0 xs) → k < length xs → Near f (tenth k) (entry xs k)
-unfolding entry entry_test
-near_at f xs k passed h = near_by_test f (tenth k) (get_or xs k 0) (at (entry_test f) xs passed k h)
+pub near_at : (f : Formula) (xs : List ℕ) (k : ℕ) → T (every (entry_test f) 0 xs) → k < length xs → Near f (tenth k) (entry xs k 0)
+unfolding entry_test
+near_at f xs k passed h = near_by_test f (tenth k) (entry xs k 0) (at 0 (entry_test f) xs passed k h)
 
 -- the first and the last entry, and so the range of all
 first_entry : Near water bulb.low lowest_vapour
@@ -72,9 +62,3 @@ frost_place i (pos n) e h =
     let l = leb-true n 0 (and_true true (leb n 0) h).1 in
     omega (arith, of_difference i 400, ap up e, ap down e)
 frost_place i (negsuc n) e h = omega (arith, of_difference i 400, ap up e, ap down e)
-
--- the entries at the places of both bulbs are the bulbs' saturations
-pub entries_are : (dry wet : ℤ) (i j : ℕ) (r : Saturations) →
-    inside bulb dry ≡ true → inside bulb wet ≡ true → tenth i ≡ dry → tenth j ≡ wet → EntriesAt i j r → AreSaturations dry wet r
-entries_are dry wet i j (Entries d w) hd hw di wj e = (rw (hd, hw), rw di at e.0, rw wj at e.1)
-entries_are dry wet i j OutsideTable hd hw di wj e = absurd e

@@ -1,14 +1,17 @@
 -- The curves that the thresholds lie on: their size, and one test over a row's 64 places, carried to each. Assumes nothing.
-use mathlib.Core.Path.{◌≡◌, sym, subst}
+use mathlib.Core.Path.{◌≡◌, refl, sym, subst}
 use mathlib.Core.Bool.{Bool, true, ◌&&◌}
+use mathlib.Core.List.{List}
 use Prim.Native.Nat.{ℕ, zero, suc, ◌+◌, ◌*◌, ◌/◌, ◌<◌, ◌≤◌}
 use native.Mathlib.Nat.{not-suc-le-zero, le_of_lt, mul-le-mul_right}
 use native.Mathlib.Omega.{arith}
 use native.Mathlib.Decide.{dec_lt}
 use lib.Dec.{T}
 use lib.Ieee.Fits.{and_l, and_r}
+use lib.ListN.{length}
 use Rattle.vapour.specs.Tables.{Least, IsRow, gone_of, threshold_of}
 use Rattle.vapour.specs.declared.Curve.{Curve}
+use Rattle.vapour.proofs.EachEntry.{entry, every, at}
 use Rattle.vapour.proofs.DewLaws.{least_test, least_by_test}
 
 -- ---- sizes
@@ -26,7 +29,7 @@ gone_most c w h =
     let bent = w * (c.2 + turned) / 65536 in
     omega (arith, share w c.3 h, share w (c.2 + turned) h, share w (c.1 + bent) h)
 
--- ---- a row
+-- ---- the rows
 
 module _ (n : ℕ) (c : Curve) where
   -- the first m places of the row
@@ -54,11 +57,5 @@ pub row_by_test : {n : ℕ} {c : Curve} (m : ℕ) → n ≡ m → T (row_test m 
 unfolding row_test
 row_by_test {n} {c} m e t = subst (λ (x : ℕ). IsRow x c) (sym e) (record { least = λ k h. each m c 64 k t h })
 
--- n is none of the numbers below m
-abbrev pub None : ℕ → ℕ → Type 0
-None n zero = Unit
-None n (suc m) = None n m × (n ≡ m → ⊥)
-
-pub none_past : (n m : ℕ) → None n m → m ≤ n
-none_past n zero none = omega arith
-none_past n (suc m) none = omega (arith, none_past n m none.0, none.1)
+pub rows_by_test : (d : Curve) (xs : List Curve) (n : ℕ) → T (every row_test 0 xs) → n < length xs → IsRow n (entry xs n d)
+rows_by_test d xs n t h = row_by_test n refl (at d row_test xs t n h)

@@ -1,18 +1,18 @@
 -- The tables by place: -40.0 °C stands at 0, and each place is a tenth of a degree.
-use Rattle.std.specs.Prelude.{ℕ, ◌+◌, ◌*◌, ◌/◌, ◌<◌, ◌≤◌, ℤ, pos, ◌*ℤ◌, ◌-ℤ◌}
+use Rattle.std.specs.Prelude.{ℕ, ◌+◌, ◌*◌, ◌/◌, ◌<◌, ◌≤◌, ◌≡◌, true, false, ℤ, pos, ◌*ℤ◌, ◌-ℤ◌, Option, Some, None}
+use Rattle.quantity.specs.Limits.{inside, bulb}
 use Rattle.vapour.specs.Vapour.{Below, Near, water}
 use Rattle.vapour.specs.declared.Curve.{Curve}
-use Rattle.vapour.specs.declared.Saturations.{Saturations}
-use Rattle.vapour.specs.declared.Saturations.TheVariants.{Entries, OutsideTable}
+use Rattle.vapour.specs.declared.VapourPressure.{VapourPressure}
 
 -- the tenth at a place
 abbrev pub tenth : ℕ → ℤ
 tenth i = pos i -ℤ pos 400
 
--- both are the entries at these places
-abbrev pub EntriesAt : ℕ → ℕ → Saturations → Type 0
-EntriesAt i j (Entries d w) = Near water (tenth i) d.0 × Near water (tenth j) w.0
-EntriesAt i j OutsideTable = ⊥
+-- a bulb has its entry over water, or lies outside
+abbrev pub IsOverWater : ℤ → Option VapourPressure → Type 0
+IsOverWater t (Some e) = (inside bulb t ≡ true) × Near water t e.0
+IsOverWater t None = inside bulb t ≡ false
 
 -- r is the least whole hundredth at or above the exact saturation half a tenth under the tenth at place i
 pub record Least (i r : ℕ) : Type 0 where

@@ -1,15 +1,12 @@
 -- Saturation of water vapour, the dew point, relative humidity and deficit (document 01, "Humidity"). Temperatures in tenths of °C
 -- unless it says thousandths, pressures of vapour in hundredths of hPa.
-use Rattle.std.specs.Prelude.{◌≡◌, Bool, true, false, ◌&&◌, cond, ℕ, suc, ◌+◌, ◌*◌, ◌-◌, leb, eqb, ℤ, pos, negsuc, ◌*ℤ◌, ◌+ℤ◌, ◌-ℤ◌}
+use Rattle.std.specs.Prelude.{◌≡◌, Bool, true, false, ◌&&◌, cond, ℕ, suc, ◌+◌, ◌*◌, ◌-◌, leb, eqb, ℤ, pos, negsuc, ◌*ℤ◌, ◌+ℤ◌, ◌-ℤ◌, Option, Some, None}
 use Rattle.number.specs.Round.{nearest}
 use Rattle.quantity.specs.Limits.{Limits, inside, bulb, frost}
 use Rattle.vapour.specs.Exp.{BelowExp, BelowReciprocal}
 use Rattle.vapour.specs.declared.Saturations.{Saturations}
-use Rattle.vapour.specs.declared.Saturations.TheVariants.{Entries, OutsideTable}
-use Rattle.vapour.specs.declared.OverIce.{OverIce}
-use Rattle.vapour.specs.declared.OverIce.TheVariants.{Entry, OutsideIceTable}
-use Rattle.vapour.specs.declared.Dew.{Dew}
-use Rattle.vapour.specs.declared.Dew.TheVariants.{Point, OutsideRange}
+use Rattle.vapour.specs.declared.VapourPressure.{VapourPressure}
+use Rattle.vapour.specs.declared.DewTemperature.{DewTemperature}
 
 -- The constants of a formula scale · exp (factor · t / (offset + t)) hPa at t °C: scale and factor in ten-thousandths, offset in
 -- thousandths of a degree.
@@ -44,15 +41,15 @@ pub record DewPoint (e : ℕ) (t : ℤ) : Type 0 where
   pub short : Below water (pos 100 *ℤ t +ℤ pos 50) e 1
 
 -- "One table for -40.0 to 50.0 °C", over water: both bulbs have their entries, or one of them lies outside.
-abbrev pub AreSaturations : ℤ → ℤ → Saturations → Type 0
-AreSaturations dry wet (Entries d w) =
-    ((inside bulb dry && inside bulb wet) ≡ true) × Near water dry d.0 × Near water wet w.0
-AreSaturations dry wet OutsideTable = (inside bulb dry && inside bulb wet) ≡ false
+abbrev pub AreSaturations : ℤ → ℤ → Option Saturations → Type 0
+AreSaturations dry wet (Some s) =
+    ((inside bulb dry && inside bulb wet) ≡ true) × Near water dry s.dry.0 × Near water wet s.wet.0
+AreSaturations dry wet None = (inside bulb dry && inside bulb wet) ≡ false
 
 -- "A second table is wanted from -40.0 to 0.0": a bulb has its entry, or lies outside.
-abbrev pub IsOverIce : ℤ → OverIce → Type 0
-IsOverIce t (Entry e) = (inside frost t ≡ true) × Near ice t e.0
-IsOverIce t OutsideIceTable = inside frost t ≡ false
+abbrev pub IsOverIce : ℤ → Option VapourPressure → Type 0
+IsOverIce t (Some e) = (inside frost t ≡ true) × Near ice t e.0
+IsOverIce t None = inside frost t ≡ false
 
 -- A table by tenths within limits: any function that gives each tenth its entry.
 abbrev pub IsTable : Formula → Limits → (ℤ → ℕ) → Type 0
@@ -78,9 +75,9 @@ abbrev pub recorded_vapour : ℕ → Bool
 recorded_vapour e = leb lowest_vapour e && leb e highest_vapour
 
 -- The dew point of e in that range.
-abbrev pub IsDew : ℕ → Dew → Type 0
-IsDew e (Point t) = (recorded_vapour e ≡ true) × DewPoint e t.0.v
-IsDew e OutsideRange = recorded_vapour e ≡ false
+abbrev pub IsDew : ℕ → Option DewTemperature → Type 0
+IsDew e (Some t) = (recorded_vapour e ≡ true) × DewPoint e t.0.v
+IsDew e None = recorded_vapour e ≡ false
 
 -- Whether t is the dew point of e in that range.
 abbrev pub TellsDew : ℕ → ℤ → Bool → Type 0

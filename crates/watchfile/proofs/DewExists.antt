@@ -1,7 +1,7 @@
 -- Every e from 0.19 to 123.45 hPa has a dew point, from -40.0 to 50.0 °C. Each tenth from -40.0 to 50.1 has a least hundredth at or
 -- above the exact saturation half a tenth under it: guessed from the series' terms 0 to 20, and shown by one test at each. The last
 -- tenth whose hundredth e reaches is the dew point. Assumes nothing.
-use mathlib.Core.Path.{◌≡◌, refl}
+use mathlib.Core.Path.{◌≡◌}
 use mathlib.Core.Bool.{Bool, true, ◌&&◌}
 use Prim.Native.Nat.{ℕ, zero, suc, ◌+◌, ◌*◌, ◌-◌, ◌/◌, ◌<◌, ◌≤◌}
 use native.Mathlib.Omega.{arith}

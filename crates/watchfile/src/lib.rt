@@ -1,7 +1,7 @@
 // The records of a watch file, and the rules of its fields: what the reader and the writer test alike.
 #![tactic(auto)]
 
-ghost use Rattle.std.specs.Prelude.{◌≡◌, ◌&&◌, ℕ, ℤ};
+ghost use Rattle.std.specs.Prelude.{◌≡◌, ℕ, ℤ};
 ghost use Rattle.watchfile.specs.Rules.{kind_right, size_of, rank, minute_right, pressure_right, change_right, absent_right, speed_right, direction_right, e_right, saturation_right, deficit_right, relative_right, dew_right};
 ghost use Rattle.watchfile.specs.Format.{DewRule, kind_of, body_right, record_right};
 
@@ -81,39 +81,24 @@ impl Body {
     {
         match self {
             Body::Pressure(_) => 1,
-            Body::Tendency {
-                change: _,
-                absent: _,
-            } => 2,
-            Body::Wind {
-                speed: _,
-                direction: _,
-            } => 3,
-            Body::Humidity {
-                e: _,
-                saturation: _,
-                deficit: _,
-                relative: _,
-                dew: _,
-            } => 4,
+            Body::Tendency { .. } => 2,
+            Body::Wind { .. } => 3,
+            Body::Humidity { .. } => 4,
         }
     }
 }
 
 // The bytes of a body of a kind.
+// Kinds stay numbers here: what is said of a number that is no kind may not change, and an enum would leave those out.
 pub fn size_of(kind: u8) -> usize
     ensures { result ≡ size_of kind }
 {
-    if kind == 1 {
-        return 2;
+    match kind {
+        1 => 2,
+        2 => 3,
+        3 => 4,
+        _ => 9,
     }
-    if kind == 2 {
-        return 3;
-    }
-    if kind == 3 {
-        return 4;
-    }
-    9
 }
 
 // The rank by which records rise: by minute, then kind.
@@ -124,6 +109,7 @@ pub fn rank(minute: u32, kind: u8) -> u64
 }
 
 // Whether a number is that of a kind.
+#[tactic(auto, unfolding(crate::specs::Rules::kind_right))]
 pub fn kind_right(kind: u8) -> bool
     ensures { result ≡ kind_right kind }
 {
@@ -131,22 +117,17 @@ pub fn kind_right(kind: u8) -> bool
 }
 
 // Whether a record of a kind may stand at a minute behind one of rank `before` (0: it is the first).
+#[tactic(auto, unfolding(crate::specs::Rules::minute_right))]
 pub fn minute_right(before: u64, kind: u8, minute: u32) -> bool
     ensures { result ≡ minute_right before kind minute }
 {
-    if !Minute::holds(minute) {
-        return false;
-    }
-    if rank(minute, kind) <= before {
-        return false;
-    }
-    if kind == 2 {
-        return Minute::THREE_HOURS <= minute;
-    }
-    true
+    Minute::holds(minute)
+        && before < rank(minute, kind)
+        && (kind != 2 || Minute::THREE_HOURS <= minute)
 }
 
 // Whether a pressure may stand in a file.
+#[tactic(auto, unfolding(crate::specs::Rules::pressure_right))]
 pub fn pressure_right(pressure: u16) -> bool
     ensures { result ≡ pressure_right pressure }
 {
@@ -154,6 +135,7 @@ pub fn pressure_right(pressure: u16) -> bool
 }
 
 // Whether a change may stand in a file.
+#[tactic(auto, unfolding(crate::specs::Rules::change_right))]
 pub fn change_right(change: Kept) -> bool
     ensures { result ≡ change_right change.v }
 {
@@ -161,6 +143,7 @@ pub fn change_right(change: Kept) -> bool
 }
 
 // Whether a number of absent minutes may stand in a file.
+#[tactic(auto, unfolding(crate::specs::Rules::absent_right))]
 pub fn absent_right(absent: u8) -> bool
     ensures { result ≡ absent_right absent }
 {
@@ -168,6 +151,7 @@ pub fn absent_right(absent: u8) -> bool
 }
 
 // Whether a speed may stand in a file.
+#[tactic(auto, unfolding(crate::specs::Rules::speed_right))]
 pub fn speed_right(speed: u16) -> bool
     ensures { result ≡ speed_right speed }
 {
@@ -175,16 +159,19 @@ pub fn speed_right(speed: u16) -> bool
 }
 
 // Whether a direction may stand beside a speed.
+#[tactic(auto, unfolding(crate::specs::Rules::direction_right))]
 pub fn direction_right(speed: u16, direction: u16) -> bool
     ensures { result ≡ direction_right speed direction }
 {
     if speed == 0 {
-        return direction == 0;
+        direction == 0
+    } else {
+        1 <= direction && Degrees::holds(Number::whole(direction as u32))
     }
-    1 <= direction && Degrees::holds(Number::whole(direction as u32))
 }
 
 // Whether e may stand beside a saturation.
+#[tactic(auto, unfolding(crate::specs::Rules::e_right))]
 pub fn e_right(saturation: u16, e: u16) -> bool
     ensures { result ≡ e_right saturation e }
 {
@@ -192,6 +179,7 @@ pub fn e_right(saturation: u16, e: u16) -> bool
 }
 
 // Whether a saturation may stand in a file.
+#[tactic(auto, unfolding(crate::specs::Rules::saturation_right))]
 pub fn saturation_right(saturation: u16) -> bool
     ensures { result ≡ saturation_right saturation }
 {
@@ -199,6 +187,7 @@ pub fn saturation_right(saturation: u16) -> bool
 }
 
 // Whether a deficit is that of e at a saturation.
+#[tactic(auto, unfolding(crate::specs::Rules::deficit_right))]
 pub fn deficit_right(e: u16, saturation: u16, deficit: u16) -> bool
     ensures { result ≡ deficit_right e saturation deficit }
 {
@@ -207,6 +196,7 @@ pub fn deficit_right(e: u16, saturation: u16, deficit: u16) -> bool
 }
 
 // Whether a relative humidity is that of e at a saturation.
+#[tactic(auto, unfolding(crate::specs::Rules::relative_right))]
 pub fn relative_right(e: u16, saturation: u16, relative: u8) -> bool
     ensures { result ≡ relative_right e saturation relative }
 {
@@ -224,54 +214,27 @@ pub fn dew_right(e: u16, dew: Kept) -> bool
     vapour::is_dew_point(VapourPressure(e as u32), DewTemperature(dew))
 }
 
-// Whether a body of tendency may stand in a file.
-fn tendency_right(change: Kept, absent: u8) -> bool
-    ensures { result ≡ (change_right change.v && absent_right absent) }
-{
-    change_right(change) && absent_right(absent)
-}
-
-// Whether a body of wind may stand in a file.
-fn wind_right(speed: u16, direction: u16) -> bool
-    ensures { result ≡ (speed_right speed && direction_right speed direction) }
-{
-    speed_right(speed) && direction_right(speed, direction)
-}
-
-// Whether a body of humidity may stand in a file.
-fn humidity_right(e: u16, saturation: u16, deficit: u16, relative: u8, dew: Kept) -> bool
-    ensures { (rule : ℕ → ℤ) → DewRule rule → result ≡ body_right rule (Body.Humidity e saturation deficit relative dew) }
-{
-    if !e_right(saturation, e) {
-        return false;
-    }
-    if !saturation_right(saturation) {
-        return false;
-    }
-    if !deficit_right(e, saturation, deficit) {
-        return false;
-    }
-    if !relative_right(e, saturation, relative) {
-        return false;
-    }
-    dew_right(e, dew)
-}
-
 // Whether a body may stand in a file.
 pub fn body_right(body: Body) -> bool
     ensures { (rule : ℕ → ℤ) → DewRule rule → result ≡ body_right rule body }
 {
     match body {
         Body::Pressure(pressure) => pressure_right(pressure),
-        Body::Tendency { change, absent } => tendency_right(change, absent),
-        Body::Wind { speed, direction } => wind_right(speed, direction),
+        Body::Tendency { change, absent } => change_right(change) && absent_right(absent),
+        Body::Wind { speed, direction } => speed_right(speed) && direction_right(speed, direction),
         Body::Humidity {
             e,
             saturation,
             deficit,
             relative,
             dew,
-        } => humidity_right(e, saturation, deficit, relative, dew),
+        } => {
+            e_right(saturation, e)
+                && saturation_right(saturation)
+                && deficit_right(e, saturation, deficit)
+                && relative_right(e, saturation, relative)
+                && dew_right(e, dew)
+        }
     }
 }
 
@@ -279,9 +242,5 @@ pub fn body_right(body: Body) -> bool
 pub fn record_right(before: u64, r: Record) -> bool
     ensures { (rule : ℕ → ℤ) → DewRule rule → result ≡ record_right rule before r }
 {
-    let body = r.body;
-    if !minute_right(before, body.kind(), r.minute) {
-        return false;
-    }
-    body_right(body)
+    minute_right(before, r.body.kind(), r.minute) && body_right(r.body)
 }

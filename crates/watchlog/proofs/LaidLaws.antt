@@ -2,10 +2,9 @@
 -- Assumes nothing.
 use mathlib.Core.Path.{◌≡◌, refl, sym, ap, ◌∙◌, subst}
 use mathlib.Core.List.{List, [], ◌∷◌, ◌++◌}
-use Prim.Native.Nat.{ℕ, zero, suc, ◌+◌, ◌-◌, ◌*◌, ◌/◌, ◌≤◌, ◌<◌, min}
+use Prim.Native.Nat.{ℕ, zero, suc, ◌+◌, ◌-◌, ◌*◌, ◌≤◌, ◌<◌, min}
 use native.Mathlib.Omega.{arith}
 use native.Mathlib.Decide.{dec_lt}
-use native.Mathlib.Nat.{not-suc-le-zero}
 use lib.IntN.{ℤ}
 use lib.ListN.{length, get_or, set, take, drop, replicate, length-set, length-take, length-append, get_or-append}
 use lib.Seq.{sets, sets-eq, length-sets, get_or-append-add, get_or-append_seam, get_or-set_same, get_or-set_other, get_or-take, get_or-drop, take_all, take-take, take-append-le}
@@ -25,7 +24,8 @@ use Rattle.handed.proofs.HandedLaws.{of_figures}
 use Rattle.handed.specs.Words.{figures_in, held, record_at, records_in}
 use Rattle.handed.proofs.WordLaws.{length_records, records_at, figures_by_lem, same_entries}
 use Rattle.writer.specs.Write.{Wrote, offered}
-use Rattle.writer.specs.declared.Written.{Written}
+use Rattle.std.specs.Prelude.{Result}
+use Rattle.writer.specs.declared.WriteRefusal.{WriteRefusal}
 use Rattle.watchlog.specs.Places.{Laid, ReadIn}
 
 -- ---- words set at a place
@@ -154,7 +154,7 @@ module _ (rule : ℕ → ℤ) (records : List Record) (w : List ℕ) (long : len
           (take-take n 48 (take n (records ++ (blank ∷ []))) (omega arith) ∙ take-take n n (records ++ (blank ∷ [])) (omega arith) ∙ front n (omega arith))
           ∙ ap (λ (k : ℕ). writing rule records k room) e
 
-  pub wrote_first : (before after : List ℕ) (x : Written) → length before ≡ room
+  pub wrote_first : (before after : List ℕ) (x : Result ℕ WriteRefusal) → length before ≡ room
       → Wrote rule (offered (take (7 * n) w)) (length (records_in (take (7 * n) w))) before after x → Wrote rule records count before after x
   wrote_first before after x e h =
       let same = ap (writing rule (offered (take (7 * n) w)) (length (records_in (take (7 * n) w)))) e ∙ same_writing ∙ ap (writing rule records count) (sym e) in

@@ -1,11 +1,11 @@
 -- What a record taken out means for a watch file: it stands there no more, every other record stays, and of a good file that has it the
 -- taking out is never refused, since what is left is right and no longer. Assumes nothing.
-use mathlib.Core.Path.{◌≡◌, refl, sym, ap, ◌∙◌, subst}
-use mathlib.Core.Bool.{true, cond}
+use mathlib.Core.Path.{◌≡◌, sym, ap, ◌∙◌}
+use mathlib.Core.Bool.{true}
 use mathlib.Core.List.Memᴰ
 use mathlib.Core.List.{List, [], ◌∷◌, ◌++◌, Memᴰ}
 use mathlib.Core.Logic.{⊎_elim}
-use Prim.Native.Nat.{ℕ, suc, ◌+◌, ◌*◌, ◌≤◌, ◌<◌}
+use Prim.Native.Nat.{ℕ, suc, ◌≤◌, ◌<◌}
 use native.Mathlib.Omega.{arith}
 use lib.IntN.{ℤ}
 use lib.ListN.{length, take, length-append, length-take}
@@ -15,7 +15,7 @@ use Rattle.number.specs.Refusal.{given, answer}
 use Rattle.octets.specs.Bytes.{AreBytes}
 use Rattle.octets.specs.Lent.{short}
 use Rattle.watchfile.specs.Rules.{kind_right, rank}
-use Rattle.watchfile.specs.Format.{DewRule, rank_of, record_right, body_bytes, bodies_bytes, file_of, reading, past, writing}
+use Rattle.watchfile.specs.Format.{DewRule, rank_of, body_bytes, bodies_bytes, file_of, reading, past, writing}
 use Rattle.watchfile.specs.declared.Record.{Record}
 use Rattle.writer.proofs.SizeLaws.{length_file}
 use Rattle.writer.proofs.RightLaws.{AllRight, right_goes_on}

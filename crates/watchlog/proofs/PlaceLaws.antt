@@ -14,16 +14,18 @@ use Rattle.octets.specs.Lent.{short}
 use Rattle.watchfile.specs.Format.{blank, record_right, record_tests, past, rank_of, file_of, reading, writing}
 use Rattle.watchfile.specs.declared.Record.{Record}
 use Rattle.reader.specs.Read.{verdict_as, counted}
-use Rattle.reader.specs.declared.Verdict.{Verdict}
-use Rattle.reader.specs.declared.Verdict.TheVariants.{Good, Broken}
+use Rattle.std.specs.Prelude.{Result, Ok, Err, IsErrAnd}
+use Rattle.std.proofs.lemmas.Result.{err_from_is_err_and}
+use Rattle.reader.specs.declared.Broken as reader
 use Rattle.reader.proofs.VerdictLaws.{broken_is, good_is}
 use Rattle.writer.specs.Write.{written_as, Wrote}
-use Rattle.writer.specs.declared.Written.{Written}
+use Rattle.writer.specs.declared.WriteRefusal.{WriteRefusal}
 use Rattle.writer.proofs.RestLaws.{at}
 use Rattle.writer.proofs.ReadWrittenLaws.{read_right}
 use Rattle.watchlog.specs.Places.{ReadIn}
 use Rattle.watchlog.specs.Placing.{inserted, placed_as, writing_all, Leaves, place_of, pushed}
-use Rattle.watchlog.specs.declared.Placed.{Placed}
+use Rattle.watchlog.specs.declared.PlaceRefusal.{PlaceRefusal}
+use Rattle.watchlog.specs.declared.PlaceRefusal.TheVariants.{Write}
 use Rattle.watchlog.proofs.LaidLaws.{same_front, file_records}
 use Rattle.watchlog.proofs.InsertLaws.{place_most, insert_set, insert_push, push_front, push_length}
 
@@ -113,10 +115,18 @@ module _ (rule : ℕ → ℤ) where
           ∙ writes_push (λ l e. let k : i < count = omega (arith, is_here) in none k (sym (stands k) ∙ e ∙ sym ranked))
 
 -- what a write answers and leaves, as an answer of the logbook
-pub leaves : (rule : ℕ → ℤ) (all : List Record) (count : ℕ) (before after : List ℕ) (w : Written) (p : Placed) (file : Answer Numbered (List ℕ))
+pub leaves : (rule : ℕ → ℤ) (all : List Record) (count : ℕ) (before after : List ℕ) (w : Result ℕ WriteRefusal) (p : Result ℕ PlaceRefusal) (file : Answer Numbered (List ℕ))
     → Wrote rule all count before after w → placed_as p ≡ written_as w → writing rule all count (length before) ≡ file → Leaves file before after p
 leaves rule all count before after w p file wrote e same =
     subst (λ (f : Answer Numbered (List ℕ)). Leaves f before after p) same (record { answer = e ∙ wrote.answer; bytes = wrote.bytes })
+
+-- a write's own answer, handed on: as it is, or its refusal among the logbook's
+pub done_on : (w : Result ℕ WriteRefusal) (n : ℕ) → w ≡ Ok n → placed_as (Ok n) ≡ written_as w
+done_on w n e = sym (ap written_as e)
+
+pub refused_on : (w : Result ℕ WriteRefusal) (r : WriteRefusal) (p : Result ℕ PlaceRefusal) → w ≡ Err r → IsErrAnd p (λ x. x ≡ Write r) → placed_as p ≡ written_as w
+refused_on w r p e h =
+    let q = err_from_is_err_and p h in ap placed_as (q.1 ∙ ap Err q.2) ∙ sym (ap written_as e)
 
 -- ---- the file that was read
 
@@ -129,24 +139,24 @@ front s n end e = go (dec_lt n (length s))
     go (no z) = take_all end s (omega arith) ∙ sym (take_all n s (omega arith))
 
 -- a file that was found broken, and one that was found good
-pub broken_there : (a : Answer ℕ (List Record)) (v : Verdict) (place : ℕ) → verdict_as v ≡ counted a → v ≡ Broken place → a ≡ refused place
-broken_there a v place e f = broken_is a place (sym e ∙ ap verdict_as f)
+pub broken_there : (a : Answer ℕ (List Record)) (v : Result ℕ reader.Broken) (b : reader.Broken) → verdict_as v ≡ counted a → v ≡ Err b → a ≡ refused b.0
+broken_there a v b e f = broken_is a b.0 (sym e ∙ ap verdict_as f)
 
-pub good_there : (rule : ℕ → ℤ) (s : List ℕ) → AreBytes s → (v : Verdict) (records : List Record) (count : ℕ)
-    → verdict_as v ≡ counted (reading rule s) → v ≡ Good count → ReadIn s 48 records → reading rule s ≡ given (take count records)
+pub good_there : (rule : ℕ → ℤ) (s : List ℕ) → AreBytes s → (v : Result ℕ reader.Broken) (records : List Record) (count : ℕ)
+    → verdict_as v ≡ counted (reading rule s) → v ≡ Ok count → ReadIn s 48 records → reading rule s ≡ given (take count records)
 good_there rule s are v records count e f at =
     let good = good_is (reading rule s) count (sym e ∙ ap verdict_as f) in
     let few = (read_right rule s good.0 are good.1).few in
     good.1 ∙ ap given (sym (ap (λ (n : ℕ). take n records) (sym good.2) ∙ file_records rule s good.0 records are good.1 few at))
 
-pub good_few : (rule : ℕ → ℤ) (s : List ℕ) → AreBytes s → (v : Verdict) (count : ℕ) → verdict_as v ≡ counted (reading rule s) → v ≡ Good count → count ≤ 48
+pub good_few : (rule : ℕ → ℤ) (s : List ℕ) → AreBytes s → (v : Result ℕ reader.Broken) (count : ℕ) → verdict_as v ≡ counted (reading rule s) → v ≡ Ok count → count ≤ 48
 good_few rule s are v count e f =
     let good = good_is (reading rule s) count (sym e ∙ ap verdict_as f) in
     omega (arith, good.2, (read_right rule s good.0 are good.1).few)
 
 -- ---- what is made of the file in a buffer: F of what its first bytes read as
 
-pub leaves_read : (rule : ℕ → ℤ) (F : Answer ℕ (List Record) → Answer Numbered (List ℕ)) (n end : ℕ) (before after : List ℕ) (p : Placed)
+pub leaves_read : (rule : ℕ → ℤ) (F : Answer ℕ (List Record) → Answer Numbered (List ℕ)) (n end : ℕ) (before after : List ℕ) (p : Result ℕ PlaceRefusal)
     (a : Answer ℕ (List Record)) → end ≡ min n (length before) → reading rule (take end before) ≡ a → Leaves (F a) before after p
     → Leaves (F (reading rule (take n before))) before after p
 leaves_read rule F n end before after p a ends e l = rw (ap (reading rule) (sym (front before n end ends)) ∙ e) l

@@ -27,7 +27,8 @@ use Rattle.writer.proofs.RightLaws.{AllRight, right_goes_on}
 use Rattle.writer.proofs.ReadWrittenLaws.{read_right}
 use Rattle.writer.proofs.RoundTrips.{written_then_read}
 use Rattle.watchlog.specs.Placing.{inserted, placed_as, writing_all, placing, Leaves}
-use Rattle.watchlog.specs.declared.Placed.{Placed}
+use Rattle.std.specs.Prelude.{Result}
+use Rattle.watchlog.specs.declared.PlaceRefusal.{PlaceRefusal}
 use Rattle.watchlog.proofs.InsertLaws.{insert_later, insert_same, insert_before, by_rank}
 
 -- ---- the records
@@ -189,6 +190,6 @@ module _ (rule : ℕ → ℤ) (r : Record) (n : ℕ) (before : List ℕ) (rs : L
       always_placed h = placed_where_room (omega (arith, file_most (inserted r rs) few))
 
 -- REFUSED, NO BYTE CHANGES.
-pub refused_leaves_every_byte : (file : Answer Numbered (List ℕ)) (before after : List ℕ) (p : Placed) (x : Numbered)
+pub refused_leaves_every_byte : (file : Answer Numbered (List ℕ)) (before after : List ℕ) (p : Result ℕ PlaceRefusal) (x : Numbered)
     → Leaves file before after p → placed_as p ≡ refused x → after ≡ before
 refused_leaves_every_byte file before after p x l e = l.bytes ∙ refused_leaves file before x (sym l.answer ∙ e)

@@ -9,25 +9,27 @@ use Rattle.number.specs.Refusal.{Answer, refused, given, Numbered}
 use Rattle.watchfile.proofs.DewRules.{the_rule}
 use Rattle.writer.proofs.SingleAnswers as writer
 use Rattle.watchlog.specs.Placing.{placed_as}
-use Rattle.watchlog.specs.declared.Placed.{Placed}
-use Rattle.watchlog.specs.declared.Placed.TheVariants.{Done, BreaksRules, TooShort, Broken, NoRecord}
+use Rattle.std.specs.Prelude.{Result, Ok, Err}
+use Rattle.writer.specs.declared.WriteRefusal.TheVariants.{BreaksRules, TooShort}
+use Rattle.watchlog.specs.declared.PlaceRefusal.{PlaceRefusal}
+use Rattle.watchlog.specs.declared.PlaceRefusal.TheVariants.{Write, Broken, NoRecord}
 use Rattle.watchlog.proofs.place.Reads as place
 use Rattle.watchlog.proofs.write.Reads as write
 use Rattle.watchlog.proofs.take_out.Reads as take_out
 
-case_of : Answer Numbered ℕ → Placed
+case_of : Answer Numbered ℕ → Result ℕ PlaceRefusal
 case_of (refused r) =
-    cond (eqb r.number 16) (BreaksRules (get_or r.extra 0 0))
-    (cond (eqb r.number 17) (TooShort (get_or r.extra 0 0)) (cond (eqb r.number 18) (Broken (get_or r.extra 0 0)) NoRecord))
-case_of (given n) = Done n
+    Err (cond (eqb r.number 16) (Write (BreaksRules (get_or r.extra 0 0)))
+    (cond (eqb r.number 17) (Write (TooShort (get_or r.extra 0 0))) (cond (eqb r.number 18) (Broken (record { 0 = get_or r.extra 0 0 })) NoRecord)))
+case_of (given n) = Ok n
 
-case_back : (p : Placed) → case_of (placed_as p) ≡ p
+case_back : (p : Result ℕ PlaceRefusal) → case_of (placed_as p) ≡ p
 unfolding case_of
-case_back (Done n) = refl
-case_back (BreaksRules i) = refl
-case_back (TooShort n) = refl
-case_back (Broken n) = refl
-case_back NoRecord = refl
+case_back (Ok n) = refl
+case_back (Err (Write (BreaksRules i))) = refl
+case_back (Err (Write (TooShort n))) = refl
+case_back (Err (Broken b)) = refl
+case_back (Err NoRecord) = refl
 
 pub single_place : Single place.Post
 single_place κs a r r' s s' p q =

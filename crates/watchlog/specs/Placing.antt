@@ -1,12 +1,13 @@
 -- A record put in its place in a watch file that stands in a lent buffer, and one taken out.
-use Rattle.std.specs.Prelude.{◌≡◌, Bool, false, ◌&&◌, cond, List, [], ◌∷◌, ℕ, zero, suc, ltb, leb, eqb, ℤ, length, take}
+use Rattle.std.specs.Prelude.{◌≡◌, Bool, false, ◌&&◌, cond, List, [], ◌∷◌, ℕ, zero, suc, ltb, leb, eqb, ℤ, length, take, Result, Ok, Err}
 use Rattle.number.specs.Refusal.{Answer, refused, given, Numbered, numbered}
 use Rattle.octets.specs.Lent.{sized, left_by}
 use Rattle.watchfile.specs.Rules.{kind_right, rank}
 use Rattle.watchfile.specs.Format.{reading, broken_at, writing, rank_of}
 use Rattle.watchfile.specs.declared.Record.{Record}
-use Rattle.watchlog.specs.declared.Placed.{Placed}
-use Rattle.watchlog.specs.declared.Placed.TheVariants.{Done, BreaksRules, TooShort, Broken, NoRecord}
+use Rattle.writer.specs.Write.{write_refusal}
+use Rattle.watchlog.specs.declared.PlaceRefusal.{PlaceRefusal}
+use Rattle.watchlog.specs.declared.PlaceRefusal.TheVariants.{Write, Broken, NoRecord}
 
 -- "Records rise strictly by minute, then kind": the records with one more in its place. One of the same minute and kind is replaced.
 unfoldable pub inserted : Record → List Record → List Record
@@ -18,12 +19,14 @@ abbrev pub NO_RECORD : ℕ
 NO_RECORD = 254
 
 -- Document 01's number of each case, and what it also returns.
-abbrev pub placed_as : Placed → Answer Numbered ℕ
-placed_as (Done n) = given n
-placed_as (BreaksRules i) = refused (numbered 16 (i ∷ []))
-placed_as (TooShort n) = refused (numbered 17 (n ∷ []))
-placed_as (Broken place) = refused (broken_at place)
-placed_as NoRecord = refused (numbered NO_RECORD [])
+abbrev pub place_refusal : PlaceRefusal → Numbered
+place_refusal (Write r) = write_refusal r
+place_refusal (Broken b) = broken_at b.0
+place_refusal NoRecord = numbered NO_RECORD []
+
+abbrev pub placed_as : Result ℕ PlaceRefusal → Answer Numbered ℕ
+placed_as (Ok n) = given n
+placed_as (Err r) = refused (place_refusal r)
 
 -- Writing all of these records into room for so many bytes.
 abbrev pub writing_all : (ℕ → ℤ) → ℕ → List Record → Answer Numbered (List ℕ)
@@ -39,7 +42,7 @@ abbrev pub placing : (ℕ → ℤ) → Record → ℕ → List ℕ → Answer Nu
 placing rule r n before = placed_in rule r (length before) (reading rule (take n before))
 
 -- A file that was to be written into the buffer `before`, which is `after` then, was answered by p.
-pub record Leaves (file : Answer Numbered (List ℕ)) (before after : List ℕ) (p : Placed) : Type 0 where
+pub record Leaves (file : Answer Numbered (List ℕ)) (before after : List ℕ) (p : Result ℕ PlaceRefusal) : Type 0 where
   pub answer : placed_as p ≡ sized file
   pub bytes : after ≡ left_by before file
 

@@ -13,8 +13,8 @@ use Rattle.sine.specs.Sine.{entry, size, sine, cosine, Parts}
 use Rattle.sine.proofs.TableLaws.{mounts, positive}
 use Rattle.sine.proofs.SineLaws.{sine_low, sine_high, cosine_low, cosine_high, sine_size}
 use Rattle.wind.specs.Wind.{N, M, meets, count, between}
-use Rattle.wind.specs.Work.{leans}
-use Rattle.wind.proofs.BisectionLaws.{count_same, count_is, count_split, Falls}
+use Rattle.wind.specs.Work.{leans, Falls}
+use Rattle.wind.proofs.BisectionLaws.{count_same, count_is, count_split}
 use Rattle.wind.proofs.DifferenceLaws.{difference, sub_up, sub_down}
 
 -- ---- in a quarter turn the marks that count come first

@@ -14,8 +14,7 @@ use Rattle.sine.specs.Sine.{cosine, Parts}
 use Rattle.sine.proofs.EveryNumber.{le_or_lt}
 use Rattle.sine.proofs.SineLaws.{parts_size, cosine_small}
 use Rattle.wind.specs.Wind.{sum, half_tenth, Nearest}
-use Rattle.wind.specs.Work.{most_ship, most_apparent, too_many, Root, reaches}
-use Rattle.wind.proofs.BisectionLaws.{Falls, Sought}
+use Rattle.wind.specs.Work.{most_ship, most_apparent, too_many, Root, reaches, Falls, Parted}
 use Rattle.wind.proofs.DifferenceLaws.{difference, sub_up}
 
 -- ---- the sum
@@ -138,11 +137,11 @@ unfolding reaches
 reaches_falls n m i j h k e =
     le-leb ((2 * i + 1) * (2 * i + 1)) n (omega (arith, square {m = 2 * i + 1} {n = 2 * j + 1} (omega arith), leb-true ((2 * j + 1) * (2 * j + 1)) n e))
 
-pub root_sought : (n v left : ℕ) → n < too_many → left ≡ 0 → Sought (reaches n) highest_wind v left → Root n v
+pub root_parted : (n v : ℕ) → n < too_many → Parted (reaches n) highest_wind v → Root n v
 unfolding reaches
-root_sought n zero left h e s =
+root_parted n zero h s =
     record { low = λ some. absurd (omega arith); high = leb-false ((2 * 0 + 1) * (2 * 0 + 1)) n (s.no 0 (omega arith) (omega arith)) }
-root_sought n (suc u) left h e s =
+root_parted n (suc u) h s =
     let edge : 2 * suc u - 1 ≡ 2 * u + 1 = omega arith in
     record {
       low = λ some. rw edge (leb-true ((2 * u + 1) * (2 * u + 1)) n (s.yes u (omega arith)));

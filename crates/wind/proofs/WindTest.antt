@@ -1,4 +1,5 @@
 -- A wind as a test that is computed, so that a worked figure is proved by it. Assumes nothing.
+use Rattle.std.specs.Prelude.{Some}
 use mathlib.Core.Path.{◌≡◌}
 use mathlib.Core.Bool.{Bool, true, ◌&&◌, ◌||◌}
 use Prim.Native.Nat.{ℕ, ◌+◌, ◌-◌, ◌<◌}
@@ -8,7 +9,6 @@ use lib.Signed.{le_z, lt_z}
 use borrow.Author.Tests.{eqb-true, ne_eqb}
 use Rattle.number.proofs.Sizes.{and_true}
 use Rattle.quantity.specs.Convert.{parts_of_knots, parts_of_metres, kept_direction}
-use Rattle.wind.specs.declared.TrueWind.TheVariants.{Blows}
 use Rattle.wind.specs.Wind.{sum, half_tenth, square_of, Nearest, between, from}
 use Rattle.wind.specs.Answer.{within_limits, IsWind}
 
@@ -37,7 +37,7 @@ is_nearest_lem s k r v e =
     record { low = λ h. record { le = yes (or_else v low h two.0) }; high = record { lt = yes two.1 } }
 
 -- a wind that passes the test is the true wind
-pub tested : (course ship apparent bow v d : ℕ) → is_wind course ship apparent bow v d ≡ true → IsWind course ship apparent bow (Blows (record { 0 = v }) (record { 0 = d }))
+pub tested : (course ship apparent bow v d : ℕ) → is_wind course ship apparent bow v d ≡ true → IsWind course ship apparent bow (Some (record { speed = record { 0 = v }; direction = record { 0 = d } }))
 unfolding is_wind
 tested course ship apparent bow v d e =
     let s = parts_of_knots ship in

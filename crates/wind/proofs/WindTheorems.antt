@@ -1,6 +1,7 @@
 -- What the contract of `true_wind` means: the sum under the root is never below zero, there is one answer, its speed lies within the
 -- limits of the true wind, and its direction is 0 in a calm and else 1 to 360. So every wind can be written to a watch file. Assumes
 -- nothing.
+use Rattle.std.specs.Prelude.{Option, Some, None}
 use mathlib.Core.Path.{◌≡◌, refl, sym, ap₂, ◌∙◌}
 use mathlib.Core.Bool.{true, false}
 use Prim.Native.Nat.{ℕ, zero, suc, ◌*◌, ◌/◌, ◌≤◌, ◌<◌, zero-le}
@@ -16,8 +17,7 @@ use Rattle.quantity.specs.declared.MetresPerSecond.{MetresPerSecond}
 use Rattle.quantity.specs.declared.Degrees.{Degrees}
 use Rattle.quantity.proofs.LimitLaws.{then_inside}
 use Rattle.sine.specs.Sine.{cosine, above, below, Parts}
-use Rattle.wind.specs.declared.TrueWind.{TrueWind}
-use Rattle.wind.specs.declared.TrueWind.TheVariants.{Blows, OutsideLimits}
+use Rattle.wind.specs.declared.Wind.{Wind}
 use Rattle.wind.specs.Wind.{sum, Nearest, compass, from}
 use Rattle.wind.specs.Answer.{IsWind}
 use Rattle.wind.proofs.SpeedLaws.{sum_is, root_of, one_root, root_most, million, million_small, cosine_most}
@@ -41,19 +41,19 @@ one_speed s k r v w a b = one_root _ v w (root_of s k r (parts r) v a) (root_of 
 not_both : true ≡ false → ⊥
 not_both e = impossible (cc)
 
-pub single_wind : (course ship apparent bow : ℕ) (w x : TrueWind) → IsWind course ship apparent bow w → IsWind course ship apparent bow x → w ≡ x
-single_wind course ship apparent bow (Blows v d) (Blows w e) a b =
-    let speeds = one_speed (parts_of_knots ship) (parts_of_metres apparent) (kept_direction bow) v.0 w.0 a.1.speed b.1.speed in
+pub single_wind : (course ship apparent bow : ℕ) (w x : Option Wind) → IsWind course ship apparent bow w → IsWind course ship apparent bow x → w ≡ x
+single_wind course ship apparent bow (Some w) (Some x) a b =
+    let speeds = one_speed (parts_of_knots ship) (parts_of_metres apparent) (kept_direction bow) w.speed.0 x.speed.0 a.1.speed b.1.speed in
     let from-a = a.1.direction in
     let from-b = b.1.direction in
-    let directions : d.0 ≡ e.0 = cc in
+    let directions : w.direction.0 ≡ x.direction.0 = cc in
     ap₂ make speeds directions
   where
-    make : ℕ → ℕ → TrueWind
-    make n m = Blows (record { 0 = n }) (record { 0 = m })
-single_wind course ship apparent bow (Blows v d) OutsideLimits a b = absurd (not_both (sym a.0 ∙ b))
-single_wind course ship apparent bow OutsideLimits (Blows v d) a b = absurd (not_both (sym b.0 ∙ a))
-single_wind course ship apparent bow OutsideLimits OutsideLimits a b = refl
+    make : ℕ → ℕ → Option Wind
+    make n m = Some (record { speed = record { 0 = n }; direction = record { 0 = m } })
+single_wind course ship apparent bow (Some w) None a b = absurd (not_both (sym a.0 ∙ b))
+single_wind course ship apparent bow None (Some x) a b = absurd (not_both (sym b.0 ∙ a))
+single_wind course ship apparent bow None None a b = refl
 
 -- ---- its range
 
@@ -65,7 +65,7 @@ moving : (course r angle v : ℕ) → (v ≡ 0 → ⊥) → (0 < from course r a
 unfolding from compass
 moving course r angle v some = rw (ne_eqb v 0 some) (omega arith, omega arith)
 
-module _ (course ship apparent bow : ℕ) (v : MetresPerSecond) (d : Degrees) (a : IsWind course ship apparent bow (Blows v d)) where
+module _ (course ship apparent bow : ℕ) (v : MetresPerSecond) (d : Degrees) (a : IsWind course ship apparent bow (Some (record { speed = v; direction = d }))) where
   speed_most : v.0 ≤ highest_wind
   speed_most =
       let s = parts_of_knots ship in

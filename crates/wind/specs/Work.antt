@@ -1,6 +1,6 @@
 -- The same in numbers that are never below zero, as the code works it. The laws of `proofs/` tie it to `Wind`: a reader of the
 -- promises needs none of this.
-use Rattle.std.specs.Prelude.{Bool, ℕ, ◌+◌, ◌-◌, ◌*◌, ◌≤◌, ◌<◌, leb, nat_abs}
+use Rattle.std.specs.Prelude.{◌≡◌, Bool, true, false, ℕ, ◌+◌, ◌-◌, ◌*◌, ◌≤◌, ◌<◌, leb, nat_abs}
 use Rattle.quantity.specs.Limits.{knots, metres_per_second, highest_wind}
 use Rattle.quantity.specs.Convert.{parts_of_knots, parts_of_metres}
 use Rattle.sine.specs.Sine.{entry}
@@ -31,3 +31,21 @@ reaches n i = leb ((2 * i + 1) * (2 * i + 1)) n
 -- Whether a cos h ≥ b sin h at mark i of the 90 in the first quarter turn.
 unfoldable pub leans : ℕ → ℕ → ℕ → Bool
 leans a b i = leb (b * entry (2 * i + 1)) (a * entry (179 - 2 * i))
+
+-- A test may be asked of each number below n ..
+abbrev pub Asked : (ℕ → Type 0) → ℕ → Type 0
+Asked pre n = (i : ℕ) → i < n → pre i
+
+-- .. and what it gives there is what p says.
+abbrev pub Tells : (ℕ → Bool → Type 0) → (ℕ → Bool) → ℕ → Type 0
+Tells gives p n = (i : ℕ) (r : Bool) → i < n → gives i r → r ≡ p i
+
+-- Where p says yes of a number below n, it says yes of all before.
+abbrev pub Falls : (ℕ → Bool) → ℕ → Type 0
+Falls p n = (i j : ℕ) → i ≤ j → j < n → p j ≡ true → p i ≡ true
+
+-- Below n, p says yes of the first c, and no of the others.
+pub record Parted (p : ℕ → Bool) (n c : ℕ) : Type 0 where
+  pub within : c ≤ n
+  pub yes : (i : ℕ) → i < c → p i ≡ true
+  pub no : (i : ℕ) → c ≤ i → i < n → p i ≡ false

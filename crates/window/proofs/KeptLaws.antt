@@ -10,17 +10,17 @@ use borrow.Author.Tests.{le-leb, lt-leb, eq-eqb, ne_eqb}
 use lib.Dec.{eqb, leb}
 use lib.ListN.{get_or, set, length, length-set}
 use lib.Seq.{get_or-set_same, get_or-set_other}
-use Rattle.window.specs.declared.Found.TheVariants.{Absent, Cell}
+use Rattle.std.specs.Prelude.{Some, None}
 use Rattle.window.specs.Layout.{MINUTES, WINDOW, cell_of}
 use Rattle.window.specs.Window.{next, bit_of, present, kept, mark, wiped, accepted}
 use Rattle.window.proofs.WordLaws.{Turned, aside_next, aside_cell, bits_aside, mark_turns, wiped_long, wiped_rest, wiped_in, wiped_out}
 use Rattle.window.proofs.PresentLaws.{present_late, present_gone, present_in, present_unset, present_set}
 
-pub absent_kept : (w : List ℕ) (m : ℕ) → present w m ≡ false → kept w m ≡ Absent
+pub absent_kept : (w : List ℕ) (m : ℕ) → present w m ≡ false → kept w m ≡ None
 unfolding kept
 absent_kept w m e = rw e
 
-pub present_kept : (w : List ℕ) (m : ℕ) → present w m ≡ true → kept w m ≡ Cell (get_or w (cell_of m) 0)
+pub present_kept : (w : List ℕ) (m : ℕ) → present w m ≡ true → kept w m ≡ Some (get_or w (cell_of m) 0)
 unfolding kept
 present_kept w m e = rw e
 
@@ -132,12 +132,12 @@ module _ (w : List ℕ) (m v : ℕ) (e : length w ≡ WINDOW) where
         go (no p) (no b) (no c) =
             rw (ne_eqb j m p, lt-leb (suc m) (j + MINUTES) (omega arith)) (present_past j (omega arith))
 
-    pub kept_after : kept (accepted w m v) j ≡ cond (eqb j m) (Cell v) (cond (leb (suc m) (j + MINUTES)) (kept w j) Absent)
+    pub kept_after : kept (accepted w m v) j ≡ cond (eqb j m) (Some v) (cond (leb (suc m) (j + MINUTES)) (kept w j) None)
     kept_after = go (ℕ_discrete j m) (dec_lt m j) (dec_lt m (j + MINUTES))
       where
         go : Dec (j ≡ m) → Dec (m < j) → Dec (m < j + MINUTES)
-            → kept (accepted w m v) j ≡ cond (eqb j m) (Cell v) (cond (leb (suc m) (j + MINUTES)) (kept w j) Absent)
-        go (yes p) b c = rw (eq-eqb j m p, p) (present_kept (accepted w m v) m present_own ∙ ap Cell cell_own)
+            → kept (accepted w m v) j ≡ cond (eqb j m) (Some v) (cond (leb (suc m) (j + MINUTES)) (kept w j) None)
+        go (yes p) b c = rw (eq-eqb j m p, p) (present_kept (accepted w m v) m present_own ∙ ap Some cell_own)
         go (no p) (yes b) c =
             rw (ne_eqb j m p, le-leb (suc m) (j + MINUTES) (omega arith), absent_kept w j (present_late w j (omega arith)))
             (absent_kept (accepted w m v) j (present_over j b))

@@ -6,7 +6,7 @@ pub mod WipeLaws
 pub mod JumpLaws
 pub mod PresentLaws
 pub mod AcceptLaws
-pub mod LateLaws
+pub mod TakenLaws
 pub mod KeptLaws
 pub mod FindLaws
 pub mod AbsentLaws

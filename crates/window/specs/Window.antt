@@ -1,9 +1,7 @@
 -- What a window does, for any words whatever.
-use Rattle.std.specs.Prelude.{◌≡◌, Bool, ◌&&◌, cond, List, ℕ, zero, suc, ◌+◌, ◌-◌, ◌%◌, min, eqb, ltb, leb, get_or, set, length}
+use Rattle.std.specs.Prelude.{◌≡◌, Bool, ◌&&◌, cond, List, ℕ, zero, suc, ◌+◌, ◌-◌, ◌%◌, min, eqb, ltb, leb, get_or, set, length, Option, Some, None}
 use Rattle.window.specs.Layout.{MINUTES, WINDOW, word_of, cell_of}
 use Rattle.window.specs.Bits.{bit, cleared, marked}
-use Rattle.window.specs.declared.Found.{Found}
-use Rattle.window.specs.declared.Found.TheVariants.{Absent, Cell}
 
 -- A slice of another length is no window.
 abbrev pub whole : List ℕ → Bool
@@ -21,8 +19,8 @@ unfoldable pub present : List ℕ → ℕ → Bool
 present w m = whole w && ltb m (next w) && leb (next w) (m + MINUTES) && eqb (bit_of w m) 1
 
 -- What is kept of a minute.
-unfoldable pub kept : List ℕ → ℕ → Found
-kept w m = cond (present w m) (Cell (get_or w (cell_of m) 0)) Absent
+unfoldable pub kept : List ℕ → ℕ → Option ℕ
+kept w m = cond (present w m) (Some (get_or w (cell_of m) 0)) None
 
 -- A minute's presence bit cleared or set.
 unfoldable pub clear : List ℕ → ℕ → List ℕ

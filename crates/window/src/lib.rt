@@ -19,13 +19,6 @@ const CELLS: usize = HEARD + MINUTES as usize / 64;
 
 pub const WINDOW: usize = CELLS + MINUTES as usize;
 
-// What is kept of a minute.
-#[derive(Clone, Copy)]
-pub enum Found {
-    Absent,
-    Cell(u64),
-}
-
 // The word of a window that has a minute's presence bit.
 fn word_of(m: u64) -> usize
     ensures { result ≡ word_of m }
@@ -41,6 +34,7 @@ fn cell_of(m: u64) -> usize
 }
 
 // The bit k of w: 0 or 1.
+#[tactic(auto, using(crate::proofs::BitLaws::bit_by))]
 fn bit(w: u64, k: u64) -> u64
     requires { k < 64 }
     ensures { result ≡ bit w k }
@@ -56,26 +50,21 @@ fn ones_in(w: u64, o: u64, n: u64) -> u64
     u64::count_ones((w >> o) & (0xffff_ffff_ffff_ffff >> (64 - n))) as u64
 }
 
-// How many of the n minutes from `from` on have their bit set: the words that end among them, and then the part of one that is left,
-// each masked to those minutes.
+// (What follows takes slices and asks for their length: std makes an array's reference of a `&mut` slice, but promises nothing of what is
+// written through it.)
+// How many of the n minutes from `from` on have their bit set: word by word, each masked to those minutes.
 fn heard_among(window: &[u64], from: u64, n: u64) -> u64
-    requires { (length window.now ≡ WINDOW) × (from + n + 64 < 2 ^ 64) }
+    requires { (length window.now ≡ WINDOW) × (0 < n) × (from + n + 64 < 2 ^ 64) }
     ensures { (result ≡ total (bit_of window.now) from n) × (result ≤ n) }
 {
     let to = from + n;
-    let mut at = from;
     let mut sum: u64 = 0;
-    while at + (64 - at % 64) <= to {
-        let o = at % 64;
-        let i = word_of(at);
-        sum += ones_in(window[i], o, 64 - o);
-        at += 64 - o;
+    for k in from / 64..to.div_ceil(64) {
+        let at = from.max(k * 64);
+        let end = to.min(k * 64 + 64);
+        sum += ones_in(window[word_of(at)], at % 64, end - at);
     }
-    if at == to {
-        return sum;
-    }
-    let i = word_of(at);
-    sum + ones_in(window[i], at % 64, to - at)
+    sum
 }
 
 // Marks a minute as heard, and those from `from` up to it, which share its word, as absent.
@@ -99,33 +88,10 @@ fn wipe(window: &mut [u64], from: u64, to: u64)
         return;
     }
     let i = word_of(from);
-    let w = window[i];
-    window[i] = w % number::power(from % 64);
-    let mut at = from - from % 64 + 64;
-    while at < to {
-        let k = word_of(at);
-        window[k] = 0;
-        at += 64;
+    window[i] = window[i] % number::power(from % 64);
+    for k in from / 64 + 1..to / 64 {
+        window[word_of(k * 64)] = 0;
     }
-}
-
-// a - b, or 0.
-fn less(a: u64, b: u64) -> u64
-    ensures { result ≡ a - b }
-{
-    if a < b { 0 } else { a - b }
-}
-
-fn larger(a: u64, b: u64) -> u64
-    ensures { result ≡ max a b }
-{
-    if a < b { b } else { a }
-}
-
-fn smaller(a: u64, b: u64) -> u64
-    ensures { result ≡ min a b }
-{
-    if a < b { a } else { b }
 }
 
 // Marks the minutes from t up to the word of m as absent, or all of them where none that was heard is within reach of m. Tells from which
@@ -140,10 +106,11 @@ fn clear_before(window: &mut [u64], t: u64, m: u64) -> u64
     }
     let start = m - m % 64;
     wipe(window, t, start);
-    larger(t, start)
+    t.max(start)
 }
 
 // Keeps a value for a minute that is later than the newest; the minutes jumped over become absent.
+#[tactic(auto, using(crate::proofs::AcceptLaws::accepted_is))]
 fn keep(window: &mut [u64], m: u64, value: u64)
     requires { (length window.old ≡ WINDOW) × (get_or window.old 0 0 ≤ m) × (m + 1 < 2 ^ 64) }
     ensures { window.new ≡ accepted window.old m value }
@@ -160,22 +127,16 @@ fn keep(window: &mut [u64], m: u64, value: u64)
 pub fn next(window: &[u64]) -> u64
     ensures { result ≡ next window.now }
 {
-    if window.len() == 0 {
-        return 0;
-    }
-    window[NEXT]
+    window.get(NEXT).copied().unwrap_or(0)
 }
 
 // Takes a value for a minute, if it is later than the newest: true, and the value is kept; else false, and nothing changes.
-#[tactic(auto, using(crate::proofs::LateLaws::late_answer, crate::proofs::LateLaws::late_words))]
+#[tactic(auto, using(crate::proofs::TakenLaws::else_answer, crate::proofs::TakenLaws::else_words, crate::proofs::TakenLaws::late_answer, crate::proofs::TakenLaws::late_words, crate::proofs::TakenLaws::kept_answer, crate::proofs::TakenLaws::kept_words))]
 pub fn accept(window: &mut [u64], minute: u32, value: u64) -> bool
     ensures { Taken window.old window.new minute value result }
 {
     let m = minute as u64;
-    if window.len() != WINDOW {
-        return false;
-    }
-    if m < window[NEXT] {
+    if window.len() != WINDOW || m < window[NEXT] {
         return false;
     }
     keep(window, m, value);
@@ -183,30 +144,23 @@ pub fn accept(window: &mut [u64], minute: u32, value: u64) -> bool
 }
 
 // What is kept of a minute.
-#[tactic(auto, using(crate::proofs::FindLaws::find_unset))]
-pub fn find(window: &[u64], minute: u32) -> Found
+#[tactic(auto, using(crate::proofs::FindLaws::find_else, crate::proofs::FindLaws::find_late, crate::proofs::FindLaws::find_gone, crate::proofs::FindLaws::find_unset, crate::proofs::FindLaws::find_set))]
+pub fn find(window: &[u64], minute: u32) -> Option<u64>
     ensures { result ≡ kept window.now minute }
 {
     let m = minute as u64;
     if window.len() != WINDOW {
-        return Found::Absent;
+        return None;
     }
     let t = window[NEXT];
-    if m >= t {
-        return Found::Absent;
+    if m >= t || t - m > MINUTES || bit(window[word_of(m)], m % 64) == 0 {
+        return None;
     }
-    if t - m > MINUTES {
-        return Found::Absent;
-    }
-    let i = word_of(m);
-    if bit(window[i], m % 64) == 0 {
-        return Found::Absent;
-    }
-    let k = cell_of(m);
-    Found::Cell(window[k])
+    Some(window[cell_of(m)])
 }
 
 // How many of the n minutes before a minute are absent.
+#[tactic(auto, using(crate::proofs::AbsentLaws::missed_else, crate::proofs::AbsentLaws::missed_apart, crate::proofs::AbsentLaws::missed_some))]
 pub fn missed(window: &[u64], minute: u32, n: u32) -> u64
     ensures { result ≡ absents (present window.now) minute n }
 {
@@ -216,8 +170,8 @@ pub fn missed(window: &[u64], minute: u32, n: u32) -> u64
         return all;
     }
     let t = window[NEXT];
-    let lo = larger(less(m, all), less(t, MINUTES));
-    let hi = smaller(m, t);
+    let lo = m.saturating_sub(all).max(t.saturating_sub(MINUTES));
+    let hi = m.min(t);
     if lo < hi {
         return all - heard_among(window, lo, hi - lo);
     }

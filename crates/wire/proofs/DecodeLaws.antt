@@ -4,16 +4,16 @@ use mathlib.Core.Path.{◌≡◌, refl, sym, ap, ◌∙◌, subst}
 use mathlib.Core.Bool.{Bool, true, false, not, ◌&&◌, cond}
 use mathlib.Core.List.{List}
 use Prim.Native.Nat.{ℕ}
-use lib.Dec.{T, eqb, T_not, not_T}
+use lib.Dec.{T, eqb}
 use lib.Ieee.{Float}
 use lib.Ieee.Fits.{and_l, and_r}
-use Rattle.number.specs.Refusal.{Answer, given, refused, answer}
+use Rattle.number.specs.Refusal.{given}
 use Rattle.number.proofs.RefusalLaws.{given_then, given_is}
 use Rattle.quantity.specs.States.{state_of}
-use Rattle.wire.specs.Bytes.{channel, state, minute, first, second}
+use Rattle.wire.specs.Bytes.{channel, state, first, second}
 use Rattle.wire.specs.Finite.{is_finite, Finite}
 use Rattle.wire.specs.Kinds.{kind, pair, Sound}
-use Rattle.wire.specs.Decode.{wire_tests, message, Sent, sent, decoded}
+use Rattle.wire.specs.Decode.{wire_tests, Sent, sent, decoded}
 use Rattle.wire.specs.declared.Message.{Message}
 use Rattle.wire.specs.declared.Message.TheVariants.{Barometer, Wheelhouse, ApparentWind, ShipMotion, DryBulb, WetBulb}
 

@@ -1,5 +1,4 @@
 pub mod Pattern
-pub mod ChannelLaws
 pub mod DecodeLaws
 pub mod SingleAnswers
 pub mod RefusalsInOrder

@@ -4,13 +4,14 @@ use mathlib.Core.Path.{◌≡◌, refl, sym, ap, ◌∙◌}
 use mathlib.Core.Bool.{cond}
 use Prim.Native.Nat.{ℕ}
 use lib.Dec.{eqb}
+use Rattle.std.specs.Prelude.{Result, Ok, Err}
 use Rattle.number.specs.Single.{Single}
 use Rattle.number.specs.Refusal.{Answer, refused, given}
+use Rattle.quantity.specs.declared.Minute.{Minute}
 use Rattle.wire.specs.Decode.{Sent, number_of, decoded_as}
 use Rattle.wire.specs.declared.MessageRefusal.{MessageRefusal}
 use Rattle.wire.specs.declared.MessageRefusal.TheVariants.{NotSixteenBytes, NoSuchChannel, ByteNotZero, NoSuchState, MinuteTooLate, NotFinite, OutsideLimits}
-use Rattle.wire.specs.declared.Decoded.{Decoded}
-use Rattle.wire.specs.declared.Decoded.TheVariants as decoding
+use Rattle.wire.specs.declared.Message.{Message}
 use Rattle.wire.proofs.number.Reads as number
 use Rattle.wire.proofs.decode.Reads as decode
 
@@ -40,13 +41,13 @@ refusal_back OutsideLimits = refl
 
 -- ---- decode
 
-abbrev decoding_of : Answer ℕ Sent → Decoded
-decoding_of (refused n) = decoding.Refused (refusal n)
-decoding_of (given s) = decoding.At (record { 0 = s.minute }) s.message
+abbrev decoding_of : Answer ℕ Sent → Result (Minute × Message) MessageRefusal
+decoding_of (refused n) = Err (refusal n)
+decoding_of (given s) = Ok (record { 0 = s.minute }, s.message)
 
-decoding_back : (d : Decoded) → decoding_of (decoded_as d) ≡ d
-decoding_back (decoding.Refused r) = ap decoding.Refused (refusal_back r)
-decoding_back (decoding.At t m) = refl
+decoding_back : (d : Result (Minute × Message) MessageRefusal) → decoding_of (decoded_as d) ≡ d
+decoding_back (Err r) = ap Err (refusal_back r)
+decoding_back (Ok s) = refl
 
 pub single_decode : Single decode.Post
 single_decode κs a r r' s s' p q = sym (decoding_back r) ∙ ap decoding_of (p ∙ sym q) ∙ decoding_back r'

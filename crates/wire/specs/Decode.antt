@@ -1,15 +1,14 @@
 -- From bytes to one of the six kinds: refusals 1 to 6, in number order.
-use Rattle.std.specs.Prelude.{Bool, not, ◌&&◌, List, [], ◌∷◌, ℕ, eqb, ltb, leb, length}
+use Rattle.std.specs.Prelude.{Bool, not, ◌&&◌, List, [], ◌∷◌, ℕ, eqb, ltb, leb, length, Result, Ok, Err}
 use Rattle.number.specs.Refusal.{Test, Answer, refused, given, answer}
 use Rattle.quantity.specs.Limits.{last_minute}
+use Rattle.quantity.specs.declared.Minute.{Minute}
 use Rattle.wire.specs.Bytes.{channel, minute, first, second, state, stray, no_state}
 use Rattle.wire.specs.Finite.{is_finite}
 use Rattle.wire.specs.Kinds.{kind}
 use Rattle.wire.specs.declared.MessageRefusal.{MessageRefusal}
 use Rattle.wire.specs.declared.MessageRefusal.TheVariants.{NotSixteenBytes, NoSuchChannel, ByteNotZero, NoSuchState, MinuteTooLate, NotFinite, OutsideLimits}
 use Rattle.wire.specs.declared.Message.{Message}
-use Rattle.wire.specs.declared.Decoded.{Decoded}
-use Rattle.wire.specs.declared.Decoded.TheVariants.{Refused, At}
 
 abbrev pub test : ℕ → Bool → Test ℕ
 test n reason = record { refusal = n; holds = reason }
@@ -51,6 +50,6 @@ number_of MinuteTooLate = 5
 number_of NotFinite = 6
 number_of OutsideLimits = 7
 
-abbrev pub decoded_as : Decoded → Answer ℕ Sent
-decoded_as (Refused r) = refused (number_of r)
-decoded_as (At t m) = given (record { minute = t.0; message = m })
+abbrev pub decoded_as : Result (Minute × Message) MessageRefusal → Answer ℕ Sent
+decoded_as (Err r) = refused (number_of r)
+decoded_as (Ok s) = given (record { minute = s.0.0; message = s.1 })

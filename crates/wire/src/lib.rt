@@ -1,11 +1,10 @@
 // A message as it comes: 16 bytes in, one of six kinds and its minute out, or the first refusal of 1 to 6 that holds.
 #![tactic(auto)]
 
-ghost use Rattle.std.specs.Prelude.{◌≡◌, ◌+◌, ◌≤◌, length, drop};
+ghost use Rattle.std.specs.Prelude.{◌≡◌, ◌+◌, ◌≤◌, length, drop, false, MatchOption};
 ghost use Rattle.std.specs.Float.{binary32};
 ghost use Rattle.std.specs.Float.Ieee.{of_bits};
 ghost use Rattle.number.specs.Refusal.{answer};
-ghost use Rattle.quantity.specs.States.{is_state};
 ghost use Rattle.octets.specs.Bytes.{le32};
 ghost use Rattle.wire.specs.Bytes.{stray, no_state};
 ghost use Rattle.wire.specs.Finite.{is_finite, Finite};
@@ -33,6 +32,7 @@ pub enum MessageRefusal {
     OutsideLimits,
 }
 
+// (No `From` of a number: it is the documents' number, and its name says so. So in `settings`, `store` and `station`.)
 // Document 01's number of a refusal.
 pub fn number(r: MessageRefusal) -> u32
     ensures { result ≡ number_of r }
@@ -66,13 +66,6 @@ pub enum Message {
     WetBulb(BulbState, f32),
 }
 
-// What the bytes of a message say, before its values are rounded.
-#[derive(Clone, Copy)]
-pub enum Decoded {
-    Refused(MessageRefusal),
-    At(Minute, Message),
-}
-
 // ---- bytes
 
 // The number in four bytes from a place on.
@@ -84,63 +77,34 @@ fn word(bytes: &[u8], at: usize) -> u32
 }
 
 // Whether a byte that must be zero is not: one of the pad, the state except on channel 5, the second value except on 2 and 3.
-fn has_stray(bytes: &[u8]) -> bool
-    requires { length bytes.now ≡ 16 }
+fn has_stray(bytes: &[u8; 16]) -> bool
     ensures { result ≡ stray bytes.now }
 {
     let sender = bytes[0];
-    if bytes[2] != 0 {
-        return true;
-    }
-    if bytes[3] != 0 {
-        return true;
-    }
-    if sender == 5 {
-        return word(bytes, 12) != 0;
-    }
-    if bytes[1] != 0 {
-        return true;
-    }
-    if sender == 2 {
-        return false;
-    }
-    if sender == 3 {
-        return false;
-    }
-    word(bytes, 12) != 0
-}
-
-fn is_state(n: u8) -> bool
-    ensures { result ≡ is_state n }
-{
-    BulbState::holds(n as u32)
+    bytes[2] != 0
+        || bytes[3] != 0
+        || (sender != 5 && bytes[1] != 0)
+        || (sender != 2 && sender != 3 && word(bytes, 12) != 0)
 }
 
 // Whether the wet bulb's state is none.
-fn has_no_state(bytes: &[u8]) -> bool
-    requires { length bytes.now ≡ 16 }
+fn has_no_state(bytes: &[u8; 16]) -> bool
     ensures { result ≡ no_state bytes.now }
 {
-    if bytes[0] == 5 {
-        return !is_state(bytes[1]);
-    }
-    false
+    bytes[0] == 5 && !BulbState::holds(u32::from(bytes[1]))
 }
 
 // ---- floats
 
-// Whether the pattern is a finite number's. It is tested before a float is made of it.
-fn is_finite(b: u32) -> bool
-    ensures { result ≡ is_finite (of_bits binary32 b) }
+// The number of a pattern; none where that is not finite, which is tested before a float is made of it.
+#[tactic(auto, using(crate::proofs::Pattern::bits_test, crate::proofs::Pattern::bits_no_nan))]
+fn float_of(b: u32) -> Option<f32>
+    ensures { MatchOption result (is_finite (of_bits binary32 b) ≡ false) (λ x. (x ≡ of_bits binary32 b) × Finite x) }
 {
-    b % 0x8000_0000 / 0x80_0000 != 255
-}
-
-fn float_of(b: u32) -> f32
-    requires { Finite (of_bits binary32 b) }
-    ensures { result ≡ of_bits binary32 b }
-{
-    f32::from_bits(b)
+    if b % 0x8000_0000 / 0x80_0000 == 255 {
+        return None;
+    }
+    Some(f32::from_bits(b))
 }
 
 // ---- from bytes to a message
@@ -148,66 +112,47 @@ fn float_of(b: u32) -> f32
 fn kind_of(channel: u8, state: u8, x: f32, y: f32) -> Message
     ensures { result ≡ kind channel state x y }
 {
-    if channel == 0 {
-        return Message::Barometer(x);
+    match channel {
+        0 => Message::Barometer(x),
+        1 => Message::Wheelhouse(x),
+        2 => Message::ApparentWind(Pair { speed: x, angle: y }),
+        3 => Message::ShipMotion(Pair { speed: x, angle: y }),
+        4 => Message::DryBulb(x),
+        _ => Message::WetBulb(BulbState::numbered(u32::from(state)), x),
     }
-    if channel == 1 {
-        return Message::Wheelhouse(x);
-    }
-    if channel == 2 {
-        return Message::ApparentWind(Pair { speed: x, angle: y });
-    }
-    if channel == 3 {
-        return Message::ShipMotion(Pair { speed: x, angle: y });
-    }
-    if channel == 4 {
-        return Message::DryBulb(x);
-    }
-    Message::WetBulb(BulbState::numbered(state as u32), x)
 }
 
 // The tests of sixteen bytes from the fifth on: refusal 5 or 6, or the message and its minute.
-fn timed(bytes: &[u8]) -> Decoded
-    requires { length bytes.now ≡ 16 }
+#[tactic(auto, unfolding(number::specs::Refusal::answer))]
+fn timed(bytes: &[u8; 16]) -> Result<(Minute, Message), MessageRefusal>
     ensures { decoded_as result ≡ answer (drop 4 (wire_tests bytes.now)) (sent bytes.now) }
 {
     let minute = word(bytes, 4);
     if !Minute::holds(minute) {
-        return Decoded::Refused(MessageRefusal::MinuteTooLate);
+        return Err(MessageRefusal::MinuteTooLate);
     }
-    let x = word(bytes, 8);
-    if !is_finite(x) {
-        return Decoded::Refused(MessageRefusal::NotFinite);
-    }
-    let y = word(bytes, 12);
-    if !is_finite(y) {
-        return Decoded::Refused(MessageRefusal::NotFinite);
-    }
-    let channel = bytes[0];
-    let state = bytes[1];
-    Decoded::At(
-        Minute(minute),
-        kind_of(channel, state, float_of(x), float_of(y)),
-    )
+    let x = float_of(word(bytes, 8)).ok_or(MessageRefusal::NotFinite)?;
+    let y = float_of(word(bytes, 12)).ok_or(MessageRefusal::NotFinite)?;
+    Ok((Minute(minute), kind_of(bytes[0], bytes[1], x, y)))
 }
 
 // What the bytes say: a message and its minute, or the first of refusals 1 to 6 that holds.
-#[tactic(auto, using(crate::proofs::ChannelLaws::channel_wrong))]
-pub fn decode(bytes: &[u8]) -> Decoded
+#[tactic(auto, unfolding(number::specs::Refusal::answer, crate::specs::Decode::decoded))]
+pub fn decode(bytes: &[u8]) -> Result<(Minute, Message), MessageRefusal>
     ensures { decoded_as result ≡ decoded bytes.now }
 {
-    if bytes.len() != 16 {
-        return Decoded::Refused(MessageRefusal::NotSixteenBytes);
-    }
+    let Ok(bytes) = <&[u8; 16]>::try_from(bytes) else {
+        return Err(MessageRefusal::NotSixteenBytes);
+    };
     let channel = bytes[0];
     if channel > 5 {
-        return Decoded::Refused(MessageRefusal::NoSuchChannel);
+        return Err(MessageRefusal::NoSuchChannel);
     }
     if has_stray(bytes) {
-        return Decoded::Refused(MessageRefusal::ByteNotZero);
+        return Err(MessageRefusal::ByteNotZero);
     }
     if has_no_state(bytes) {
-        return Decoded::Refused(MessageRefusal::NoSuchState);
+        return Err(MessageRefusal::NoSuchState);
     }
     timed(bytes)
 }

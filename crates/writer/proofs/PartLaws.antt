@@ -6,6 +6,7 @@ use Prim.Native.Nat.{ℕ, suc, ◌+◌, ◌-◌, ◌≤◌, ◌<◌}
 use native.Mathlib.Omega.{arith}
 use native.Mathlib.Nat.{add-zero, add-suc, suc-add}
 use lib.ListN.{length, set, take, drop, drop_of_length-le, length-drop}
+use borrow.Rule.Slice.PartMut.{put_mid}
 use lib.Seq.{sets, sets-eq, length-sets, drop-drop, take_all, set_comm}
 
 pub sets_append : (a b l : List ℕ) (i : ℕ) → sets l i (a ++ b) ≡ sets (sets l i a) (i + length a) b
@@ -49,6 +50,13 @@ pub back : (l bs last : List ℕ) (at : ℕ) → at + length bs ≤ length l →
 back l bs last at h e =
     rw (e, part_is l at, nothing_behind l at, append-nil (sets (drop at l) 0 bs), sets-eq bs (drop at l) 0 (omega (arith, length-drop at l)), drop-drop (0 + length bs) at l, sets-eq bs l at h)
     (ap (λ (k : ℕ). take at l ++ (bs ++ drop (at + k) l)) (omega arith) ∙ sym (append_assoc (take at l) bs (drop (at + length bs) l)))
+
+-- what was copied over a part
+pub laid : (l bs copied : List ℕ) (at n : ℕ) → copied ≡ bs → n ≡ length bs → at + length bs ≤ length l → put_mid at n l copied ≡ sets l at bs
+laid l bs copied at n e m h =
+    rw (e, m) (ap (λ (k : List ℕ). take at l ++ (bs ++ k)) (drop-drop (length bs) at l)
+    ∙ sym (append_assoc (take at l) bs (drop (at + length bs) l))
+    ∙ sym (sets-eq bs l at h))
 
 -- one record: its row and its body are written into parts lent one after the other; the rows still to come end before that body
 module _ (l whole row rows body bodies last last' : List ℕ) (at to : ℕ) (before : at + length row + length rows ≤ to) (room : to + length body ≤ length l)

@@ -9,19 +9,20 @@ use Rattle.number.specs.Single.{Single, SingleLeft}
 use Rattle.number.specs.Refusal.{Answer, refused, given, Numbered}
 use Rattle.watchfile.proofs.DewRules.{the_rule}
 use Rattle.writer.specs.Write.{written_as}
-use Rattle.writer.specs.declared.Written.{Written}
-use Rattle.writer.specs.declared.Written.TheVariants.{Done, BreaksRules, TooShort}
+use Rattle.std.specs.Prelude.{Result, Ok, Err}
+use Rattle.writer.specs.declared.WriteRefusal.{WriteRefusal}
+use Rattle.writer.specs.declared.WriteRefusal.TheVariants.{BreaksRules, TooShort}
 use Rattle.writer.proofs.write.Reads as write
 
-pub case_of : Answer Numbered ℕ → Written
-case_of (refused r) = cond (eqb r.number 16) (BreaksRules (get_or r.extra 0 0)) (TooShort (get_or r.extra 0 0))
-case_of (given n) = Done n
+pub case_of : Answer Numbered ℕ → Result ℕ WriteRefusal
+case_of (refused r) = Err (cond (eqb r.number 16) (BreaksRules (get_or r.extra 0 0)) (TooShort (get_or r.extra 0 0)))
+case_of (given n) = Ok n
 
-pub case_back : (w : Written) → case_of (written_as w) ≡ w
+pub case_back : (w : Result ℕ WriteRefusal) → case_of (written_as w) ≡ w
 unfolding case_of
-case_back (Done n) = refl
-case_back (BreaksRules i) = refl
-case_back (TooShort n) = refl
+case_back (Ok n) = refl
+case_back (Err (BreaksRules i)) = refl
+case_back (Err (TooShort n)) = refl
 
 pub single_write : Single write.Post
 single_write κs a r r' s s' p q =

@@ -14,10 +14,10 @@ use Rattle.watchfile.specs.Format.{DewRule, blank, record_tests, past, rows_byte
 use Rattle.watchfile.specs.declared.Record.{Record}
 use Rattle.handed.specs.Words.{record_at, records_in}
 use Rattle.handed.proofs.WordLaws.{records_at}
-use Rattle.writer.specs.Write.{Wrote, offered, Checks, checked_as, rules_tests}
-use Rattle.writer.specs.declared.Written.TheVariants as written
-use Rattle.writer.specs.declared.Checked.{Checked}
-use Rattle.writer.specs.declared.Checked.TheVariants as checked
+use Rattle.writer.specs.Write.{Wrote, offered, Checks, written_as, write_refusal, rules_tests}
+use Rattle.std.specs.Prelude.{Result, Ok, Err}
+use Rattle.writer.specs.declared.WriteRefusal.{WriteRefusal}
+use Rattle.writer.specs.declared.WriteRefusal.TheVariants.{TooShort}
 use Rattle.writer.proofs.PartLaws.{sets_append}
 use Rattle.writer.proofs.SizeLaws.{length_rows, length_file}
 
@@ -34,8 +34,8 @@ module _ (rule : ℕ → ℤ) (all : List Record) (count room : ℕ) where
   unfolding writing
   writing_is = ap (λ (ts : List (Test Numbered)). answer ts (file_of (take count all))) (sym (append_assoc (record_tests rule 0 0 (take count all)) (past count ∷ []) (short room (length (file_of (take count all))) ∷ [])))
 
-  pub writing_breaks : (i : ℕ) → refused (numbered 16 (i ∷ [])) ≡ answer (rules_tests rule all count) (length (file_of (take count all))) → writing rule all count room ≡ refused (numbered 16 (i ∷ []))
-  writing_breaks i e = writing_is ∙ refused_stays (rules_tests rule all count) _ (length (file_of (take count all))) (file_of (take count all)) (numbered 16 (i ∷ [])) (sym e)
+  pub writing_breaks : (r : Numbered) → refused r ≡ answer (rules_tests rule all count) (length (file_of (take count all))) → writing rule all count room ≡ refused r
+  writing_breaks r e = writing_is ∙ refused_stays (rules_tests rule all count) _ (length (file_of (take count all))) (file_of (take count all)) r (sym e)
 
   last_test : (n : ℕ) → given n ≡ answer (rules_tests rule all count) (length (file_of (take count all))) → writing rule all count room ≡ answer (short room (length (file_of (take count all))) ∷ []) (file_of (take count all))
   last_test n e = writing_is ∙ given_goes_on (rules_tests rule all count) _ (length (file_of (take count all))) n (file_of (take count all)) (sym e)
@@ -73,30 +73,30 @@ file_written all count b b1 b2 n m h e1 e2 =
 
 -- ---- what `write` does by what `check` said
 
-module _ (all : List Record) (count : ℕ) (q : Checked) (ok : Checks all count q) (b : List ℕ) where
-  pub needed : (n : ℕ) → q ≡ checked.Needs n → (count ≤ 48) × (n ≡ length (file_of (take count all)))
+module _ (all : List Record) (count : ℕ) (q : Result ℕ WriteRefusal) (ok : Checks all count q) (b : List ℕ) where
+  pub needed : (n : ℕ) → q ≡ Ok n → (count ≤ 48) × (n ≡ length (file_of (take count all)))
   needed n e = rw e at ok.room
 
-  pub wrote_breaks : (i : ℕ) → q ≡ checked.BreaksRules i → (rule : ℕ → ℤ) → DewRule rule → Wrote rule all count b b (written.BreaksRules i)
-  wrote_breaks i e rule dew =
-      let w = writing_breaks rule all count (length b) i (ap checked_as (sym e) ∙ ok.answer rule dew) in
+  pub wrote_breaks : (r : WriteRefusal) → q ≡ Err r → (rule : ℕ → ℤ) → DewRule rule → Wrote rule all count b b (Err r)
+  wrote_breaks r e rule dew =
+      let w = writing_breaks rule all count (length b) (write_refusal r) (ap written_as (sym e) ∙ ok.answer rule dew) in
       record { answer = rw w; bytes = rw w }
 
-  pub wrote_short : (n : ℕ) → q ≡ checked.Needs n → length b < n → (rule : ℕ → ℤ) → DewRule rule → Wrote rule all count b b (written.TooShort n)
+  pub wrote_short : (n : ℕ) → q ≡ Ok n → length b < n → (rule : ℕ → ℤ) → DewRule rule → Wrote rule all count b b (Err (TooShort n))
   wrote_short n e h rule dew =
-      let w = writing_short rule all count (length b) n (needed n e).1 h (ap checked_as (sym e) ∙ ok.answer rule dew) in
+      let w = writing_short rule all count (length b) n (needed n e).1 h (ap written_as (sym e) ∙ ok.answer rule dew) in
       record { answer = rw w; bytes = rw w }
 
-  pub wrote_done : (n : ℕ) → q ≡ checked.Needs n → n ≤ length b → (b1 b2 : List ℕ) → length all ≡ min count 48 → b1 ≡ sets b 0 (0x57 ∷ 0x54 ∷ 1 ∷ count ∷ [])
+  pub wrote_done : (n : ℕ) → q ≡ Ok n → n ≤ length b → (b1 b2 : List ℕ) → length all ≡ min count 48 → b1 ≡ sets b 0 (0x57 ∷ 0x54 ∷ 1 ∷ count ∷ [])
       → b2 ≡ sets (sets b1 4 (rows_bytes (take count all) (start_of count))) (start_of count) (bodies_bytes (take count all))
-      → (rule : ℕ → ℤ) → DewRule rule → Wrote rule all count b b2 (written.Done n)
+      → (rule : ℕ → ℤ) → DewRule rule → Wrote rule all count b b2 (Ok n)
   wrote_done n e h b1 b2 l e1 e2 rule dew =
       let f = needed n e in
-      let w = writing_done rule all count (length b) n f.1 h (ap checked_as (sym e) ∙ ok.answer rule dew) in
+      let w = writing_done rule all count (length b) n f.1 h (ap written_as (sym e) ∙ ok.answer rule dew) in
       record { answer = rw w (ap given f.1); bytes = rw w (file_written all count b b1 b2 l f.0 (omega arith) e1 e2) }
 
   -- the room that each part asks for
-  pub room_asked : (n : ℕ) → q ≡ checked.Needs n → length all ≡ min count 48 → n ≡ start_of count + length (bodies_bytes (take count all))
+  pub room_asked : (n : ℕ) → q ≡ Ok n → length all ≡ min count 48 → n ≡ start_of count + length (bodies_bytes (take count all))
   room_asked n e l = omega (arith, needed n e, length-take-le count all (omega (arith, needed n e)), length_file (take count all))
 
 -- ---- the records that words hold

@@ -11,15 +11,15 @@ use Rattle.octets.proofs.LentLaws.{refused_leaves, given_lays}
 use Rattle.watchfile.specs.Format.{DewRule, reading, writing}
 use Rattle.watchfile.specs.declared.Record.{Record}
 use Rattle.writer.specs.Write.{Wrote, written_as}
-use Rattle.writer.specs.declared.Written.{Written}
-use Rattle.writer.specs.declared.Written.TheVariants.{Done}
+use Rattle.std.specs.Prelude.{Result, Ok}
+use Rattle.writer.specs.declared.WriteRefusal.{WriteRefusal}
 use Rattle.writer.proofs.RoundTrips.{written_then_read}
 
 module _ (rule : ℕ → ℤ) (all : List Record) (count : ℕ) (before after : List ℕ) where
-  pub refused_leaves_every_byte : (w : Written) (r : Numbered) → Wrote rule all count before after w → written_as w ≡ refused r → after ≡ before
+  pub refused_leaves_every_byte : (w : Result ℕ WriteRefusal) (r : Numbered) → Wrote rule all count before after w → written_as w ≡ refused r → after ≡ before
   refused_leaves_every_byte w r h e = h.bytes ∙ refused_leaves (writing rule all count (length before)) before r (sym h.answer ∙ e)
 
-  module _ (n : ℕ) (h : Wrote rule all count before after (Done n)) where
+  module _ (n : ℕ) (h : Wrote rule all count before after (Ok n)) where
     pub leaves_what_is_behind : drop n after ≡ drop n before
     leaves_what_is_behind =
         let f = given_lays (writing rule all count (length before)) before n (sym h.answer) in

@@ -12,24 +12,13 @@ ghost use Rattle.writer.specs.Write.{offered, WroteWords, Checks};
 use number::Kept;
 use watchfile::{Body, RECORDS};
 
-// What a write came to.
+// Why a write is refused.
 #[derive(Clone, Copy)]
-pub enum Written {
-    // the bytes of the file
-    Done(usize),
+pub enum WriteRefusal {
     // 16: the index of the first record that breaks the rules, or of the 49th
     BreaksRules(usize),
     // 17: the bytes needed
     TooShort(usize),
-}
-
-// What the records come to before a byte is written.
-#[derive(Clone, Copy)]
-enum Checked {
-    // the bytes of their file
-    Needs(usize),
-    // the index of the first record that breaks the rules, or of the 49th
-    BreaksRules(usize),
 }
 
 // Puts the two bytes of n at a place.
@@ -37,9 +26,7 @@ fn put16(part: &mut [u8], at: usize, n: u16)
     requires { at + 2 ≤ length part.old }
     ensures { part.new ≡ sets part.old at (bytes16 n) }
 {
-    let two = octets::in_two(n);
-    part[at] = two[0];
-    part[at + 1] = two[1];
+    part[at..at + 2].copy_from_slice(&octets::in_two(n));
 }
 
 // Puts the four bytes of n at a place.
@@ -47,11 +34,7 @@ fn put32(part: &mut [u8], at: usize, n: u32)
     requires { at + 4 ≤ length part.old }
     ensures { part.new ≡ sets part.old at (bytes32 n) }
 {
-    let four = octets::in_four(n);
-    part[at] = four[0];
-    part[at + 1] = four[1];
-    part[at + 2] = four[2];
-    part[at + 3] = four[3];
+    part[at..at + 4].copy_from_slice(&octets::in_four(n));
 }
 
 // Writes a pressure.
@@ -67,8 +50,7 @@ fn write_tendency(part: &mut [u8], change: Kept, absent: u8)
     requires { 3 ≤ length part.old }
     ensures { part.new ≡ sets part.old 0 (body_bytes (Body.Tendency change absent)) }
 {
-    let bits = octets::unsigned(change);
-    put16(part, 0, bits);
+    put16(part, 0, octets::unsigned(change));
     part[2] = absent;
 }
 
@@ -86,12 +68,11 @@ fn write_humidity(part: &mut [u8], e: u16, saturation: u16, deficit: u16, relati
     requires { 9 ≤ length part.old }
     ensures { part.new ≡ sets part.old 0 (body_bytes (Body.Humidity e saturation deficit relative dew)) }
 {
-    let bits = octets::unsigned(dew);
     put16(part, 0, e);
     put16(part, 2, saturation);
     put16(part, 4, deficit);
     part[6] = relative;
-    put16(part, 7, bits);
+    put16(part, 7, octets::unsigned(dew));
 }
 
 // Writes a body at the start of the part of the buffer that is lent from its offset on.
@@ -140,60 +121,50 @@ fn write_records(buffer: &mut [u8], records: &[u32], count: usize)
     requires { (length (records_in records.now) ≡ count) × (start_of count + length (bodies_bytes (take count (offered records.now))) ≤ length buffer.old) × (count ≤ 48) }
     ensures { buffer.new ≡ sets (sets buffer.old 4 (rows_bytes (take count (offered records.now)) (start_of count))) (start_of count) (bodies_bytes (take count (offered records.now))) }
 {
-    let mut i: usize = 0;
-    let mut row: usize = 4;
     let mut at: usize = 4 + 8 * count;
-    while i < count {
+    for i in 0..count {
         let r = handed::record_at(records, i);
         let body = r.body;
         let kind = body.kind();
-        write_row(&mut buffer[row..], kind, at as u16, r.minute);
+        write_row(&mut buffer[4 + 8 * i..], kind, at as u16, r.minute);
         write_body(&mut buffer[at..], body);
-        row += 8;
         at += watchfile::size_of(kind);
-        i += 1;
     }
 }
 
-// The bytes that the file of the records needs, or the first record that may not be written.
-fn check(records: &[u32], count: usize) -> Checked
+// The bytes that the file of the records needs, or 16: the first record that may not be written.
+fn check(records: &[u32], count: usize) -> Result<usize, WriteRefusal>
     requires { length (records_in records.now) ≡ count }
     ensures { Checks (offered records.now) count result }
 {
-    let mut i: usize = 0;
     let mut before: u64 = 0;
     let mut size: usize = 4;
-    while i < count {
+    for i in 0..count {
         if RECORDS <= i {
-            return Checked::BreaksRules(RECORDS);
+            return Err(WriteRefusal::BreaksRules(RECORDS));
         }
         let r = handed::record_at(records, i);
         if !watchfile::record_right(before, r) {
-            return Checked::BreaksRules(i);
+            return Err(WriteRefusal::BreaksRules(i));
         }
         let body = r.body;
         let kind = body.kind();
         before = watchfile::rank(r.minute, kind);
         size += 8 + watchfile::size_of(kind);
-        i += 1;
     }
-    Checked::Needs(size)
+    Ok(size)
 }
 
 // Writes the records that words hold as a watch file into the lent buffer, or gives refusal 16 or 17 and leaves every byte.
-pub fn write(buffer: &mut [u8], records: &[u32]) -> Written
+pub fn write(buffer: &mut [u8], records: &[u32]) -> Result<usize, WriteRefusal>
     ensures { (rule : ℕ → ℤ) → DewRule rule → WroteWords rule records.now buffer.old buffer.new result }
 {
     let count = handed::count(records);
-    match check(records, count) {
-        Checked::BreaksRules(i) => Written::BreaksRules(i),
-        Checked::Needs(size) => {
-            if buffer.len() < size {
-                return Written::TooShort(size);
-            }
-            write_head(buffer, count);
-            write_records(buffer, records, count);
-            Written::Done(size)
-        }
+    let bytes = check(records, count)?;
+    if buffer.len() < bytes {
+        return Err(WriteRefusal::TooShort(bytes));
     }
+    write_head(buffer, count);
+    write_records(buffer, records, count);
+    Ok(bytes)
 }

@@ -1,6 +1,6 @@
--- `put_figures` meets its contract: letter and minute, and the figures behind them. Assumes nothing.
-use Rattle.text.proofs.PutLaws.{join}
+-- `put_figures` meets its contract: letter and minute, and the figures, one behind the other. Assumes nothing.
+use Rattle.text.proofs.PutLaws.{then}
 use Rattle.answer.proofs.put_figures.Goals as goal
 
 pub returns : goal.returns
-returns c = join c.put_head-behind.ensures c.put_moisture.ensures
+returns c = then c.put_head.ensures c.put_moisture.ensures

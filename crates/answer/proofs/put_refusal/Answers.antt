@@ -1,10 +1,10 @@
 -- `put_refusal` meets its contract: the word, the numbers and the end of the line, one behind the other. Assumes nothing.
-use native.Mathlib.Omega.{arith}
-use Rattle.text.proofs.PutLaws.{join, put_inside}
+use Rattle.text.proofs.PutLaws.{then}
+use Rattle.hexadecimal.proofs.RowLaws.{puts_inside}
 use Rattle.answer.proofs.put_refusal.Goals as goal
 
-pub put_fields-last-requires : goal.put_fields-last-requires
-put_fields-last-requires c = let z = put_inside c.put_bytes-behind.ensures in omega arith
+pub put_fields-requires : goal.put_fields-requires
+put_fields-requires c = puts_inside c.bytes.ensures
 
 pub returns : goal.returns
-returns c = join c.put_bytes-behind.ensures (join c.put_fields-last.ensures c.put_byte.ensures)
+returns c = then c.bytes.ensures (then c.put_fields.ensures c.byte.ensures)

@@ -1,14 +1,11 @@
 -- `lay` meets its contract: the words before the loop's place are written, those behind it are zero. Assumes nothing.
 use mathlib.Core.Path.{◌≡◌}
-use Prim.Native.Nat.{ℕ, ◌-◌, ◌≤◌, ◌<◌}
+use Prim.Native.Nat.{ℕ, ◌≤◌, ◌<◌}
 use lib.ListN.{length, get_or}
-use Rattle.block.specs.Layout.{SETTINGS, WORDS}
+use Rattle.block.specs.Layout.{WORDS}
 use Rattle.block.specs.Words.{setting_word}
 use Rattle.block.proofs.lay.Given as goal
 
 abbrev pub invariant-loop-i : goal.invariant-loop-i
 invariant-loop-i l =
-    (l.i ≤ SETTINGS) × (length l.store ≡ WORDS) × ((k : ℕ) → k < l.i → get_or l.store k 0 ≡ setting_word l.g k) × ((k : ℕ) → l.i ≤ k → get_or l.store k 0 ≡ 0)
-
-abbrev pub decreases-loop-i : goal.decreases-loop-i
-decreases-loop-i l = SETTINGS - l.i
+    (length l.store ≡ WORDS) × ((k : ℕ) → k < l.i → get_or l.store k 0 ≡ setting_word l.g k) × ((k : ℕ) → l.i ≤ k → get_or l.store k 0 ≡ 0)

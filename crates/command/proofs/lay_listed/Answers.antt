@@ -8,7 +8,7 @@ use Rattle.line.specs.Words.{colon, fields_at, part}
 use Rattle.line.proofs.EndLaws.{end_inside}
 use Rattle.line.proofs.FieldLaws.{fields_here, fields_past}
 use Rattle.command.specs.declared.Flaw.TheVariants.{Misshapen}
-use Rattle.command.proofs.FormLaws.{leaves_ends, list_none, list_here, list_on}
+use Rattle.command.proofs.FormLaws.{lays_flaw, list_none, list_here, list_on}
 use Rattle.command.proofs.lay_listed.Goals as goal
 
 pub loop-from-init : goal.loop-from-init
@@ -68,4 +68,4 @@ pub returns : goal.returns
 returns c =
     let q = c.args in
     let l = c.loop-from in
-    rw (← l.invariant.1, list_none q.word.now (fields_past q.forms.now l.from c.loop-from-test.false), ← l.invariant.0) (leaves_ends l.numbers q.place Misshapen (omega (arith, c.requires, ap length l.invariant.0)))
+    rw (← l.invariant.1, list_none q.word.now (fields_past q.forms.now l.from c.loop-from-test.false), ← l.invariant.0) (lays_flaw l.numbers q.place Misshapen)

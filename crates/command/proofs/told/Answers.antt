@@ -1,102 +1,60 @@
 -- `told` meets its contract: letter by letter. Assumes nothing.
 use mathlib.Core.Path.{sym, ◌∙◌}
-use borrow.Author.Tests.{eq-eqb, ne_eqb}
+use mathlib.Core.List.{[], ◌∷◌}
+use borrow.Author.Tests.{ne_eqb}
+use borrow.Author.Rules.{rules}
+use Rattle.text.specs.Letters.{letters}
 use Rattle.command.specs.Forms.{told}
+use Rattle.command.proofs.FormLaws.{text_is}
 use Rattle.command.proofs.told.Goals as goal
 
-pub returns-then-letter-eq110 : goal.returns-then-letter-eq110
+pub returns-in-110 : goal.returns-in-110
 unfolding told
-returns-then-letter-eq110 c = rw (eq-eqb _ _ c.if-letter-eq110.true) c.whole.ensures
+returns-in-110 c = rw c.in-110.is c.whole.ensures
 
-pub returns-then-letter-eq104 : goal.returns-then-letter-eq104
+pub returns-in-104 : goal.returns-in-104
 unfolding told
-returns-then-letter-eq104 c =
-    rw (
-      ne_eqb _ _ c.if-letter-eq110.false,
-      eq-eqb _ _ c.if-letter-eq104.true,
-    ) c.whole-then-letter-eq104.ensures
+returns-in-104 c = rw c.in-104.is c.whole-in-104.ensures
 
-pub returns-then-letter-eq111 : goal.returns-then-letter-eq111
+pub returns-in-111 : goal.returns-in-111
 unfolding told
-returns-then-letter-eq111 c =
-    rw (
-      ne_eqb _ _ c.if-letter-eq110.false,
-      ne_eqb _ _ c.if-letter-eq104.false,
-      eq-eqb _ _ c.if-letter-eq111.true,
-    ) c.whole-then-letter-eq111.ensures
+returns-in-111 c = rw c.in-111.is c.whole-in-111.ensures
 
-pub returns-then-letter-eq122 : goal.returns-then-letter-eq122
+pub returns-in-122 : goal.returns-in-122
 unfolding told
-returns-then-letter-eq122 c =
-    rw (
-      ne_eqb _ _ c.if-letter-eq110.false,
-      ne_eqb _ _ c.if-letter-eq104.false,
-      ne_eqb _ _ c.if-letter-eq111.false,
-      eq-eqb _ _ c.if-letter-eq122.true,
-    ) c.signed.ensures
+returns-in-122 c = rw c.in-122.is c.signed.ensures
 
-pub returns-then-same : goal.returns-then-same
+pub returns-then-eq : goal.returns-then-eq
 unfolding told
-returns-then-same c =
-    rw (
-      ne_eqb _ _ c.if-letter-eq110.false,
-      ne_eqb _ _ c.if-letter-eq104.false,
-      ne_eqb _ _ c.if-letter-eq111.false,
-      ne_eqb _ _ c.if-letter-eq122.false,
-      eq-eqb _ _ c.if-letter-eq117.true,
-      sym c.same.ensures ∙ c.if-same.true,
-    )
+returns-then-eq c = rw (c.in-117.is, sym (text_is c.args.text.now (letters "hPa") c.as_slice.ensures c.eq.ensures) ∙ c.if-eq.true)
 
-pub returns-then-letter-eq117 : goal.returns-then-letter-eq117
+pub returns-else-eq : goal.returns-else-eq
 unfolding told
-returns-then-letter-eq117 c =
+returns-else-eq c =
     rw (
-      ne_eqb _ _ c.if-letter-eq110.false,
-      ne_eqb _ _ c.if-letter-eq104.false,
-      ne_eqb _ _ c.if-letter-eq111.false,
-      ne_eqb _ _ c.if-letter-eq122.false,
-      eq-eqb _ _ c.if-letter-eq117.true,
-      sym c.same.ensures ∙ c.if-same.false,
-      ← c.same-then-letter-eq117.ensures,
+      c.in-117.is,
+      sym (text_is c.args.text.now (letters "hPa") c.as_slice.ensures c.eq.ensures) ∙ c.if-eq.false,
+      ← text_is c.args.text.now (letters "mmHg") c.as_slice-in-117.ensures c.eq-in-117.ensures,
     ) c.only.ensures
 
-pub returns-then-letter-eq120 : goal.returns-then-letter-eq120
+pub returns-in-120 : goal.returns-in-120
 unfolding told
-returns-then-letter-eq120 c =
-    rw (
-      ne_eqb _ _ c.if-letter-eq110.false,
-      ne_eqb _ _ c.if-letter-eq104.false,
-      ne_eqb _ _ c.if-letter-eq111.false,
-      ne_eqb _ _ c.if-letter-eq122.false,
-      ne_eqb _ _ c.if-letter-eq117.false,
-      eq-eqb _ _ c.if-letter-eq120.true,
-      ← c.is_hex.ensures,
-    ) c.only-then-letter-eq120.ensures
+returns-in-120 c = rw (c.in-120.is, ← c.is_hex.ensures) c.only-in-120.ensures
 
-pub returns-then-letter-eq97 : goal.returns-then-letter-eq97
+pub returns-in-97 : goal.returns-in-97
 unfolding told
-returns-then-letter-eq97 c =
-    rw (
-      ne_eqb _ _ c.if-letter-eq110.false,
-      ne_eqb _ _ c.if-letter-eq104.false,
-      ne_eqb _ _ c.if-letter-eq111.false,
-      ne_eqb _ _ c.if-letter-eq122.false,
-      ne_eqb _ _ c.if-letter-eq117.false,
-      ne_eqb _ _ c.if-letter-eq120.false,
-      eq-eqb _ _ c.if-letter-eq97.true,
-      ← c.same-then-letter-eq97.ensures,
-    ) c.only-then-letter-eq97.ensures
+returns-in-97 c = rw (c.in-97.is, ← text_is c.args.text.now (letters "anemometer") c.as_slice-in-97.ensures c.eq-in-97.ensures) c.only-in-97.ensures
 
-pub returns : goal.returns
+pub returns-in_default : goal.returns-in_default
 unfolding told
-returns c =
+returns-in_default c =
     rw (
-      ne_eqb _ _ c.if-letter-eq110.false,
-      ne_eqb _ _ c.if-letter-eq104.false,
-      ne_eqb _ _ c.if-letter-eq111.false,
-      ne_eqb _ _ c.if-letter-eq122.false,
-      ne_eqb _ _ c.if-letter-eq117.false,
-      ne_eqb _ _ c.if-letter-eq120.false,
-      ne_eqb _ _ c.if-letter-eq97.false,
-      ← c.same-2.ensures,
-    ) c.only-2.ensures
+      ne_eqb c.args.letter 110 (search rules),
+      ne_eqb c.args.letter 104 (search rules),
+      ne_eqb c.args.letter 111 (search rules),
+      ne_eqb c.args.letter 122 (search rules),
+      ne_eqb c.args.letter 117 (search rules),
+      ne_eqb c.args.letter 120 (search rules),
+      ne_eqb c.args.letter 97 (search rules),
+      ← text_is c.args.text.now (c.args.letter ∷ []) c.as_slice-in_default.ensures c.eq-in_default.ensures,
+    ) c.only-in_default.ensures

@@ -4,12 +4,12 @@ use Rattle.gap.proofs.WatchLaws.{is_heard, goes_on, barometer_new_100, thermomet
 use Rattle.gap.proofs.hear_at_100.Goals as goal
 
 pub expect-requires : goal.expect-requires
-expect-requires c = c.is_heard.ensures ∙ is_heard c.hear.ensures c.requires barometer_new_100
+expect-requires c = c.is_ok.ensures.value ∙ is_heard c.hear.ensures c.requires barometer_new_100
 
 pub expect-requires-2 : goal.expect-requires-2
 expect-requires-2 c =
     let once = goes_on c.hear.ensures c.requires in
-    c.is_heard-2.ensures ∙ is_heard c.hear-2.ensures once thermometer_new_100
+    c.is_ok-2.ensures.value ∙ is_heard c.hear-2.ensures once thermometer_new_100
 
 pub returns : goal.returns
 returns c = goes_on c.hear-2.ensures (goes_on c.hear.ensures c.requires)

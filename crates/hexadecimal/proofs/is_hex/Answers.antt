@@ -1,6 +1,5 @@
 -- `is_hex` meets its contract: what is left is hex exactly where all is. Assumes nothing.
 use mathlib.Core.Path.{refl, sym, ◌∙◌}
-use Prim.Native.Nat.{◌-◌}
 use native.Mathlib.Omega.{arith}
 use borrow.Author.Tests.{lt-ltb, le-ltb}
 use Rattle.hexadecimal.proofs.HexLaws.{hex_on, hex_first, hex_second, hex_left}

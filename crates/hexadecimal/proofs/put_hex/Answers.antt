@@ -1,33 +1,22 @@
 -- `put_hex` meets its contract: who puts the bytes that are left from here on has put all. Assumes nothing.
-use mathlib.Core.Path.{refl, ◌∙◌}
-use Prim.Native.Nat.{◌-◌}
-use native.Mathlib.Omega.{arith}
 use lib.ListN.{get_or}
-use Rattle.text.proofs.PutLaws.{put_inside, put_none}
+use Rattle.text.proofs.PutLaws.{then}
 use Rattle.hexadecimal.specs.Hex.{hex_of}
 use Rattle.hexadecimal.proofs.HexLaws.{put_byte}
-use Rattle.hexadecimal.proofs.RowLaws.{put_next, put_last}
+use Rattle.hexadecimal.proofs.RowLaws.{puts_next, puts_last, puts_inside}
 use borrow.Author.Rules.{rules}
 use Rattle.hexadecimal.proofs.put_hex.Goals as goal
 
-pub returns-then-text-at : goal.returns-then-text-at
-returns-then-text-at c = put_none c.args.text.now c.args.at _ (omega arith)
+pub loop-b-init : goal.loop-b-init
+loop-b-init c = (puts_inside c.bytes.ensures, λ after p. then c.bytes.ensures p)
 
-pub loop-i-init : goal.loop-i-init
-loop-i-init c = (search rules, search rules, refl, λ after k p. p)
-
-pub digit16-requires : goal.digit16-requires
-digit16-requires c = omega (arith, c.shared_slice_known-in-loop-i-1.given c.loop-i.i)
-
-pub loop-i-preserved : goal.loop-i-preserved
-loop-i-preserved c =
-    let l = c.loop-i in
-    let h = c.loop-i-test.true in
-    let p = put_byte (get_or c.args.bytes.now l.i 0) c.digit16.ensures c.digit16-in-loop-i.ensures c.put_byte-second.ensures c.put_byte-place.ensures in
-    let z = put_inside p in
-    (search rules, omega arith, z.0 ∙ l.invariant.2, λ after k q. l.invariant.3 after k (put_next hex_of _ l.i h p q))
+pub loop-b-preserved : goal.loop-b-preserved
+loop-b-preserved c =
+    let l = c.loop-b in
+    let p = put_byte (get_or c.args.bytes.now l.b-index 0) c.digit16.ensures c.digit16-in-loop-b.ensures c.byte.ensures c.byte-in-loop-b.ensures in
+    (puts_inside p, λ after q. l.invariant.1 after (puts_next hex_of _ l.b-index c.loop-b-test.true p q))
 
 pub returns : goal.returns
 returns c =
-    let l = c.loop-i in
-    l.invariant.3 _ _ (put_last l.text l.place hex_of _ l.i (search rules) (search rules))
+    let l = c.loop-b in
+    l.invariant.1 _ (puts_last l.page hex_of _ l.b-index (search rules) (search rules))

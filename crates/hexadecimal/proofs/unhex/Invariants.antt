@@ -1,7 +1,7 @@
 -- `unhex` meets its contract: of a word that is hex and has room, the bytes that are left, laid from here on, are all of them laid from the start. Assumes nothing.
 use mathlib.Core.Path.{◌≡◌}
 use mathlib.Core.Bool.{true}
-use Prim.Native.Nat.{◌+◌, ◌-◌, ◌≤◌}
+use Prim.Native.Nat.{◌*◌}
 use lib.ListN.{length, drop}
 use lib.Seq.{sets}
 use Rattle.hexadecimal.specs.Hex.{is_hex, hex_bytes}
@@ -9,8 +9,5 @@ use Rattle.hexadecimal.proofs.unhex.Given as goal
 
 abbrev pub invariant-loop-i : goal.invariant-loop-i
 invariant-loop-i l =
-    (l.i ≤ length l.word) × (length l.bytes ≡ length l.initial.bytes) × (l.k + length (hex_bytes (drop l.i l.word)) ≤ length l.bytes) × (is_hex (drop l.i l.word) ≡ true)
-    × (sets l.bytes l.k (hex_bytes (drop l.i l.word)) ≡ sets l.initial.bytes 0 (hex_bytes l.word))
-
-abbrev pub decreases-loop-i : goal.decreases-loop-i
-decreases-loop-i l = length l.word - l.i
+    (length l.bytes ≡ length l.initial.bytes) × (is_hex (drop (2 * l.i) l.word) ≡ true)
+    × (sets l.bytes l.i (hex_bytes (drop (2 * l.i) l.word)) ≡ sets l.initial.bytes 0 (hex_bytes l.word))

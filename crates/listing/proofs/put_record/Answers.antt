@@ -1,15 +1,15 @@
 -- `put_record` meets its contract: letter, minute, body and end, one behind the other. Assumes nothing.
-use Rattle.text.proofs.PutLaws.{join}
+use Rattle.text.proofs.PutLaws.{then}
 use borrow.Author.Tests.{eq-eqb, ne_eqb}
 use Rattle.listing.specs.Lines.{figures_line}
 use Rattle.listing.proofs.put_record.Goals as goal
 
 pub returns-then-r-eq0 : goal.returns-then-r-eq0
 unfolding figures_line
-returns-then-r-eq0 c = rw (eq-eqb _ 0 c.if-r-eq0.true) c.put_bytes.ensures
+returns-then-r-eq0 c = rw (eq-eqb _ 0 c.if-r-eq0.true) c.bytes.ensures
 
 pub returns : goal.returns
 unfolding figures_line
 returns c =
     rw (ne_eqb _ 0 c.if-r-eq0.false, ← c.letter.ensures)
-    (join c.put_byte-minute.ensures (join c.put_field-fields.ensures (join c.put_body-end.ensures c.put_byte.ensures)))
+    (then c.byte.ensures (then c.field.ensures (then c.put_body.ensures c.put_end.ensures)))

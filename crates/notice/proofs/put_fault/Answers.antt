@@ -5,7 +5,7 @@ pub returns-in-NotACommand : goal.returns-in-NotACommand
 returns-in-NotACommand c = rw c.in-NotACommand.is c.put_wrong.ensures
 
 pub returns-in-WordCount : goal.returns-in-WordCount
-returns-in-WordCount c = rw c.in-WordCount.is c.put_bytes.ensures
+returns-in-WordCount c = rw c.in-WordCount.is c.bytes.ensures
 
 pub returns-in-NotSuch : goal.returns-in-NotSuch
 returns-in-NotSuch c = rw c.in-NotSuch.is c.put_not_such.ensures

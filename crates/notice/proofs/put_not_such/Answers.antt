@@ -1,12 +1,13 @@
--- `put_not_such` meets its contract: each test of the letter picks its words. Assumes nothing.
-use borrow.Author.Tests.{eq-eqb, ne_eqb}
+-- `put_not_such` meets its contract: each letter picks its words. Assumes nothing.
+use borrow.Author.Tests.{ne_eqb}
+use borrow.Author.Rules.{rules}
 use Rattle.notice.proofs.put_not_such.Goals as goal
 
-pub returns-then-letter-eq117 : goal.returns-then-letter-eq117
-returns-then-letter-eq117 c = rw (eq-eqb _ _ c.if-letter-eq117.true) c.put_wrong.ensures
+pub returns-in-117 : goal.returns-in-117
+returns-in-117 c = rw c.in-117.is c.put_wrong.ensures
 
-pub returns-then-letter-eq120 : goal.returns-then-letter-eq120
-returns-then-letter-eq120 c = rw (ne_eqb _ _ c.if-letter-eq117.false, eq-eqb _ _ c.if-letter-eq120.true) c.put_wrong-then-letter-eq120.ensures
+pub returns-in-120 : goal.returns-in-120
+returns-in-120 c = rw c.in-120.is c.put_wrong-in-120.ensures
 
-pub returns : goal.returns
-returns c = rw (ne_eqb _ _ c.if-letter-eq117.false, ne_eqb _ _ c.if-letter-eq120.false) c.put_wrong-2.ensures
+pub returns-in_default : goal.returns-in_default
+returns-in_default c = rw (ne_eqb c.args.letter 117 (search rules), ne_eqb c.args.letter 120 (search rules)) c.put_wrong-in_default.ensures

@@ -2,7 +2,7 @@
 -- ended, since the contents are right. Assumes nothing.
 use mathlib.Core.Path.{◌≡◌, sym, ap, ◌∙◌, subst}
 use mathlib.Core.List.{List}
-use Prim.Native.Nat.{ℕ, suc, ◌+◌, ◌-◌, ◌≤◌}
+use Prim.Native.Nat.{ℕ, suc, ◌+◌, ◌*◌, ◌-◌, ◌≤◌}
 use native.Mathlib.Omega.{arith}
 use lib.IntN.{ℤ}
 use lib.ListN.{length, drop, get_or}
@@ -13,14 +13,15 @@ use Rattle.watchfile.specs.Format.{DewRule, rows_fields, records_from, start_of}
 use Rattle.watchfile.proofs.DewRules.{the_rule}
 use Rattle.watchfile.proofs.FieldLaws.{given_passed, size_most}
 use Rattle.reader.specs.Read.{counted}
-use Rattle.reader.specs.declared.BodyTested.{BodyTested}
-use Rattle.reader.proofs.ContentsLaws.{part, length_part}
+use Rattle.std.specs.Prelude.{Result}
+use Rattle.reader.specs.declared.Broken.{Broken}
+use Rattle.reader.proofs.ContentsLaws.{part}
 use Rattle.reader.proofs.BodiesLaws.{kind_at, kind_is, row_right, BodyAt, body_stop, body_on, end_extra, end_none, length_records}
 use Rattle.reader.proofs.bodies.Invariants.{left}
 use Rattle.reader.proofs.bodies.Goals as goal
-use Rattle.reader.proofs.bodies.Goals.{After-get16-at, After-size_of, In-Wrong}
+use Rattle.reader.proofs.bodies.Goals.{After-get16-at, After-size_of, In-Err}
 
-at-end : (rule : ℕ → ℤ) (s : List ℕ) (row at end : ℕ) (q : BodyTested) → at ≡ end → BodyAt rule (part s at) (get_or (part s row) 0 0) q → BodyAt rule (part s end) (kind_at s row) q
+at-end : (rule : ℕ → ℤ) (s : List ℕ) (row at end : ℕ) (q : Result (Unit {0}) Broken) → at ≡ end → BodyAt rule (part s at) (get_or (part s row) 0 0) q → BodyAt rule (part s end) (kind_at s row) q
 at-end rule s row at end q e h =
     subst (λ (x : ℕ). BodyAt rule (part s x) (kind_at s row) q) e (subst (λ (k : ℕ). BodyAt rule (part s at) k q) (kind_is s row) h)
 
@@ -30,36 +31,36 @@ offset c =
     let l = c.loop-i in
     let q = c.args in
     c.get16-at.ensures
-    ∙ (row_right (length q.file.now) q.file.now (q.count - l.i) (q.count - (l.i + 1)) l.row l.end l.invariant.3.0 (omega arith) l.invariant.3.1).0
+    ∙ (row_right (length q.file.now) q.file.now (q.count - l.i) (q.count - (l.i + 1)) (4 + 8 * l.i) l.end l.invariant.1.0 (omega arith) l.invariant.1.1).0
 
 -- where a body is broken, so is the file
-stop : (c : In-Wrong) → c.get16-at.result ≡ c.loop-i.end → (rule : ℕ → ℤ) → DewRule rule →
+stop : (c : In-Err) → c.get16-at.result ≡ c.loop-i.end → (rule : ℕ → ℤ) → DewRule rule →
     let l = c.loop-i in
     let q = c.args in
-    let place = c.get16-at.result + c.in-Wrong.k in
-    (left q.file.now q.count rule (q.count - l.i) l.row l.end ≡ refused place) × (place ≤ length q.file.now)
+    let place = c.get16-at.result + c.in-Err.field-0.0 in
+    (left q.file.now q.count rule (q.count - l.i) (4 + 8 * l.i) l.end ≡ refused place) × (place ≤ length q.file.now)
 stop c o rule ruled =
     let l = c.loop-i in
     let q = c.args in
     let s = q.file.now in
     let at = c.get16-at.result in
-    rw o (body_stop rule s (records_from s q.count 4 (start_of q.count)) (q.count - l.i) (q.count - (l.i + 1)) l.row l.end (omega arith) l.invariant.2 c.test_body.result
-    c.in-Wrong.k (at-end rule s l.row at l.end c.test_body.result o (c.test_body.ensures rule ruled)) c.in-Wrong.is)
+    rw o (body_stop rule s (records_from s q.count 4 (start_of q.count)) (q.count - l.i) (q.count - (l.i + 1)) (4 + 8 * l.i) l.end (omega arith) l.invariant.0 c.test_body.result
+    c.in-Err.field-0 (at-end rule s (4 + 8 * l.i) at l.end c.test_body.result o (c.test_body.ensures rule ruled)) c.in-Err.is)
 
 -- where it is right, the bodies behind it answer for it
 on : (c : After-size_of) → c.get16-at.result ≡ c.loop-i.end → (rule : ℕ → ℤ) → DewRule rule →
     let l = c.loop-i in
     let q = c.args in
     let s = q.file.now in
-    let end = l.end + size_of (kind_at s l.row) in
-    (left s q.count rule (q.count - l.i) l.row l.end ≡ left s q.count rule (q.count - (l.i + 1)) (l.row + 8) end)
+    let end = l.end + size_of (kind_at s (4 + 8 * l.i)) in
+    (left s q.count rule (q.count - l.i) (4 + 8 * l.i) l.end ≡ left s q.count rule (q.count - (l.i + 1)) ((4 + 8 * l.i) + 8) end)
     × (end ≤ length s)
 on c o rule ruled =
     let l = c.loop-i in
     let q = c.args in
     let s = q.file.now in
-    body_on rule s (records_from s q.count 4 (start_of q.count)) (q.count - l.i) (q.count - (l.i + 1)) l.row l.end (omega arith) l.invariant.2 c.test_body.result
-    (at-end rule s l.row c.get16-at.result l.end c.test_body.result o (c.test_body.ensures rule ruled)) c.in-Right.is
+    body_on rule s (records_from s q.count 4 (start_of q.count)) (q.count - l.i) (q.count - (l.i + 1)) (4 + 8 * l.i) l.end (omega arith) l.invariant.0 c.test_body.result
+    (at-end rule s (4 + 8 * l.i) c.get16-at.result l.end c.test_body.result o (c.test_body.ensures rule ruled)) c.in-Ok.is
 
 pub loop-i-init : goal.loop-i-init
 loop-i-init c =
@@ -67,13 +68,7 @@ loop-i-init c =
     let s = q.file.now in
     let all : q.count - 0 ≡ q.count = omega arith in
     let right = given_passed (length s) (rows_fields s q.count 4 (start_of q.count) 0) q.count q.count c.requires.1 in
-    (omega arith, omega arith, omega arith, (0, rw all right), λ rule ruled. rw all)
-
-pub bounds-head-0 : goal.bounds-head-0
-bounds-head-0 c = omega (arith, length_part c.args.file.now c.loop-i.row)
-
-pub get16-at-requires : goal.get16-at-requires
-get16-at-requires c = omega (arith, length_part c.args.file.now c.loop-i.row)
+    (omega arith, (0, rw all right), λ rule ruled. rw all)
 
 pub slice_bounds-test_body-count : goal.slice_bounds-test_body-count
 slice_bounds-test_body-count c = let o = offset (goal.at.slice_bounds-test_body-count c).After-get16-at in omega arith
@@ -84,21 +79,21 @@ slice_bounds-test_body-start c = let o = offset (goal.at.slice_bounds-test_body-
 pub slice_bounds-test_body-end : goal.slice_bounds-test_body-end
 slice_bounds-test_body-end c = let o = offset (goal.at.slice_bounds-test_body-end c).After-get16-at in omega arith
 
-pub overflow_add-place : goal.overflow_add-place
-overflow_add-place c = let t = stop (goal.at.overflow_add-place c).In-Wrong (offset (goal.at.overflow_add-place c).After-get16-at) the_rule.0 the_rule.1 in omega arith
+pub overflow_add-result : goal.overflow_add-result
+overflow_add-result c = let t = stop (goal.at.overflow_add-result c).In-Err (offset (goal.at.overflow_add-result c).After-get16-at) the_rule.0 the_rule.1 in omega arith
 
-pub returns-in-Wrong : goal.returns-in-Wrong
-returns-in-Wrong c =
+pub returns-in-Err : goal.returns-in-Err
+returns-in-Err c =
     λ rule ruled.
     let l = c.loop-i in
-    ap counted (sym (l.invariant.4 rule ruled ∙ (stop (goal.at.returns-in-Wrong c).In-Wrong (offset (goal.at.returns-in-Wrong c).After-get16-at) rule ruled).0))
+    ap counted (sym (l.invariant.2 rule ruled ∙ (stop (goal.at.returns-in-Err c).In-Err (offset (goal.at.returns-in-Err c).After-get16-at) rule ruled).0))
 
-pub overflow_add-end-in-loop-i : goal.overflow_add-end-in-loop-i
-overflow_add-end-in-loop-i c =
-    let o = offset (goal.at.overflow_add-end-in-loop-i c).After-get16-at in
+pub overflow_add-end-in-Ok : goal.overflow_add-end-in-Ok
+overflow_add-end-in-Ok c =
+    let o = offset (goal.at.overflow_add-end-in-Ok c).After-get16-at in
     let l = c.loop-i in
     let s = c.args.file.now in
-    omega (arith, size_most (get_or (part s l.row) 0 0))
+    omega (arith, size_most (get_or (part s (4 + 8 * l.i)) 0 0))
 
 pub loop-i-preserved : goal.loop-i-preserved
 loop-i-preserved c =
@@ -111,14 +106,13 @@ loop-i-preserved c =
     let head = (goal.at.loop-i-preserved c).After-get16-at in
     let at = c.get16-at.result in
     let o : at ≡ l.end = offset head in
-    let z : c.size_of.result ≡ size_of (kind_at s l.row) = c.size_of.ensures ∙ ap size_of (kind_is s l.row) in
+    let z : c.size_of.result ≡ size_of (kind_at s (4 + 8 * l.i)) = c.size_of.ensures ∙ ap size_of (kind_is s (4 + 8 * l.i)) in
+    let up : 4 + 8 * (l.i + 1) ≡ 4 + 8 * l.i + 8 = omega arith in
     let t = on (goal.at.loop-i-preserved c).After-size_of o the_rule.0 the_rule.1 in
-    let behind = (row_right (length s) s n m l.row l.end l.invariant.3.0 some l.invariant.3.1).1 in (
-      omega arith,
-      omega arith,
+    let behind = (row_right (length s) s n m (4 + 8 * l.i) l.end l.invariant.1.0 some l.invariant.1.1).1 in (
       omega (arith, t.1),
-      (rank (le32 (drop l.row s) 4) (kind_at s l.row), rw (z, o) behind),
-      λ rule ruled. l.invariant.4 rule ruled ∙ (on (goal.at.loop-i-preserved c).After-size_of o rule ruled).0 ∙ rw (z, o),
+      (rank (le32 (drop (4 + 8 * l.i) s) 4) (kind_at s (4 + 8 * l.i)), rw (up, z, o) behind),
+      λ rule ruled. l.invariant.2 rule ruled ∙ (on (goal.at.loop-i-preserved c).After-size_of o rule ruled).0 ∙ rw (up, z, o),
     )
 
 pub returns-then-end-file : goal.returns-then-end-file
@@ -127,7 +121,7 @@ returns-then-end-file c =
     let l = c.loop-i in
     let q = c.args in
     let s = q.file.now in
-    ap counted (sym (l.invariant.4 rule ruled ∙ end_extra rule s (records_from s q.count 4 (start_of q.count)) (q.count - l.i) l.row l.end (omega arith) c.if-end-file.true))
+    ap counted (sym (l.invariant.2 rule ruled ∙ end_extra rule s (records_from s q.count 4 (start_of q.count)) (q.count - l.i) (4 + 8 * l.i) l.end (omega arith) c.if-end-file.true))
 
 pub returns : goal.returns
 returns c =
@@ -137,4 +131,4 @@ returns c =
     let s = q.file.now in
     let all = records_from s q.count 4 (start_of q.count) in
     ap given (sym (length_records s q.count 4 (start_of q.count)))
-    ∙ ap counted (sym (l.invariant.4 rule ruled ∙ end_none rule s all (q.count - l.i) l.row l.end (omega arith) (omega arith)))
+    ∙ ap counted (sym (l.invariant.2 rule ruled ∙ end_none rule s all (q.count - l.i) (4 + 8 * l.i) l.end (omega arith) (omega arith)))

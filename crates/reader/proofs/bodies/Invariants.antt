@@ -18,9 +18,6 @@ left s count rule n row at = found s (bodies_fields rule s n row at) (records_fr
 
 abbrev pub invariant-loop-i : goal.invariant-loop-i
 invariant-loop-i l =
-    (l.i ≤ l.count) × (l.row ≡ 4 + 8 * l.i) × (l.end ≤ length l.file)
-    × ((before : ℕ) × Passed (length l.file) (rows_fields l.file (l.count - l.i) l.row l.end before))
-    × ((rule : ℕ → ℤ) → DewRule rule → left l.file l.count rule l.count 4 (start_of l.count) ≡ left l.file l.count rule (l.count - l.i) l.row l.end)
-
-abbrev pub decreases-loop-i : goal.decreases-loop-i
-decreases-loop-i l = l.count - l.i
+    (l.end ≤ length l.file)
+    × ((before : ℕ) × Passed (length l.file) (rows_fields l.file (l.count - l.i) (4 + 8 * l.i) l.end before))
+    × ((rule : ℕ → ℤ) → DewRule rule → left l.file l.count rule l.count 4 (start_of l.count) ≡ left l.file l.count rule (l.count - l.i) (4 + 8 * l.i) l.end)

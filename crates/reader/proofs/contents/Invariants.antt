@@ -8,8 +8,5 @@ use Rattle.reader.proofs.contents.Given as goal
 
 abbrev pub invariant-loop-i : goal.invariant-loop-i
 invariant-loop-i l =
-    (l.i ≤ l.count) × (l.at ≡ 4 + 8 * l.i) × (l.at ≤ length l.file) × (l.next ≤ 4 + 8 * l.count + 9 * l.i)
-    × (found l.file (rows_fields l.file l.count 4 (start_of l.count) 0) l.count ≡ found l.file (rows_fields l.file (l.count - l.i) l.at l.next l.before) l.count)
-
-abbrev pub decreases-loop-i : goal.decreases-loop-i
-decreases-loop-i l = l.count - l.i
+    (4 + 8 * l.i ≤ length l.file) × (l.next ≤ 4 + 8 * l.count + 9 * l.i)
+    × (found l.file (rows_fields l.file l.count 4 (start_of l.count) 0) l.count ≡ found l.file (rows_fields l.file (l.count - l.i) (4 + 8 * l.i) l.next l.before) l.count)

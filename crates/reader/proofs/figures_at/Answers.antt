@@ -23,6 +23,7 @@ pub returns : goal.returns
 returns c =
     let q = c.args in
     (rw (
+      c.from.ensures,
       c.fifth_at.ensures,
       c.fourth_at.ensures,
       c.third_at.ensures,

@@ -8,12 +8,15 @@ use Rattle.watchfile.proofs.FieldLaws.{size_most}
 use Rattle.reader.proofs.ContentsLaws.{part}
 use Rattle.reader.proofs.RecordLaws.{few, not_counted, row_cut, no_kind, body_cut, there}
 use Rattle.reader.proofs.find.Goals as goal
+use Rattle.reader.proofs.find.Goals.{then-file-lt4-via-then-file-lt4, then-file-lt4-via-else-file-lt4+then-i-file}
 
 pub returns-then-file-lt4 : goal.returns-then-file-lt4
-returns-then-file-lt4 c = few c.args.file.now c.args.i c.if-file-lt4.true
-
-pub returns-then-i-file : goal.returns-then-i-file
-returns-then-i-file c = let q = c.args in not_counted q.file.now q.i c.if-i-file.true
+returns-then-file-lt4 c =
+    let q = c.args in
+    elim c.then-file-lt4.branch [
+      | then-file-lt4-via-then-file-lt4 w ↦ few q.file.now q.i w.if-file-lt4.true
+      | then-file-lt4-via-else-file-lt4+then-i-file w ↦ not_counted q.file.now q.i w.if-i-file.true
+    ]
 
 pub returns-then-file-row : goal.returns-then-file-row
 returns-then-file-row c = let q = c.args in row_cut q.file.now q.i c.if-i-file.false c.if-file-row.true

@@ -1,23 +1,31 @@
 -- `certificate_holds` meets its contract: the number of points, then the points, then their order. Assumes nothing.
 use mathlib.Core.Path.{sym, ◌∙◌}
-use borrow.Author.Tests.{le-leb, lt-leb}
-use Rattle.settings.specs.Settings.{certificate_holds}
+use borrow.Author.Tests.{le-leb}
+use Rattle.std.proofs.Common.{rules, tests}
+use lib.ListN.{take}
+use Rattle.std.proofs.lemmas.Fn.{always_returns_same}
+use Rattle.std.proofs.lemmas.Iterator.{YieldsList-from_slice}
+use Rattle.std.proofs.lemmas.Iterator.Search.{all_from_yields_List}
+use Rattle.settings.specs.Settings.{nowhere, point_holds, rises, certificate_holds}
+use Rattle.settings.proofs.EveryLaws.{every_listed, every_sorted}
 use Rattle.settings.proofs.certificate_holds.Goals as goal
 
-pub returns-then-count-lt2 : goal.returns-then-count-lt2
+pub returns-then-all : goal.returns-then-all
 unfolding certificate_holds
-returns-then-count-lt2 c = rw (lt-leb _ _ c.if-count-lt2.true)
+returns-then-all c =
+    rw (
+      le-leb _ _ c.if-n-lt2.false,
+      le-leb _ _ c.if-n-gt-POINTS.false,
+      sym (every_listed nowhere c.args.points c.args.count (search rules) (point_holds c.args.unit)) ∙ sym (all_from_yields_List {all = take c.args.count c.args.points} (point_holds c.args.unit) _ _ _ c.all.ensures.ran (YieldsList-from_slice _ cc) (λ x b q k. search (rules, tests))) ∙ c.if-all.true,
+    )
+    (every_sorted nowhere c.args.points c.args.count (search rules) rises _ (c.is_sorted_by.ensures.cases rises (always_returns_same _ _ _ (λ a r k d. search (rules, tests)))))
 
-pub returns-then-count-gt16 : goal.returns-then-count-gt16
+pub returns-else-all : goal.returns-else-all
 unfolding certificate_holds
-returns-then-count-gt16 c = rw (le-leb _ _ c.if-count-lt2.false, lt-leb _ _ c.if-count-gt16.true)
-
-pub returns-then-points_hold : goal.returns-then-points_hold
-unfolding certificate_holds
-returns-then-points_hold c =
-    rw (le-leb _ _ c.if-count-lt2.false, le-leb _ _ c.if-count-gt16.false, sym c.points_hold.ensures ∙ c.if-points_hold.true) c.points_rise.ensures
-
-pub returns : goal.returns
-unfolding certificate_holds
-returns c =
-    rw (le-leb _ _ c.if-count-lt2.false, le-leb _ _ c.if-count-gt16.false, sym c.points_hold.ensures ∙ c.if-points_hold.false)
+returns-else-all c =
+    rw (
+      le-leb _ _ c.if-n-lt2.false,
+      le-leb _ _ c.if-n-gt-POINTS.false,
+      sym (every_listed nowhere c.args.points c.args.count (search rules) (point_holds c.args.unit)) ∙ sym (all_from_yields_List {all = take c.args.count c.args.points} (point_holds c.args.unit) _ _ _ c.all.ensures.ran (YieldsList-from_slice _ cc) (λ x b q k. search (rules, tests))) ∙ c.if-all.false,
+    )
+    c.if-all.false

@@ -1,6 +1,6 @@
--- `put_around` meets its contract: words, number and words, one behind the other. Assumes nothing.
-use Rattle.text.proofs.PutLaws.{join}
+-- `put_around` meets its contract: words, a number and words, one behind the other. Assumes nothing.
+use Rattle.text.proofs.PutLaws.{then}
 use Rattle.spoken.proofs.put_around.Goals as goal
 
 pub returns : goal.returns
-returns c = join c.put_bytes-number.ensures (join c.put_natural-behind.ensures c.put_bytes.ensures)
+returns c = then c.bytes.ensures (then c.natural.ensures c.bytes-2.ensures)

@@ -1,19 +1,19 @@
--- `put_change` meets its contract: a plus where the number is above zero, then the number. Assumes nothing.
-use mir.Syntax.{w64}
-use mir.Val.{SFits}
-use mir.Facts.{to_z-of_z}
+-- `put_change` meets its contract: a plus where it rises. Assumes nothing.
+use mathlib.Core.Path.{◌≡◌}
+use mathlib.Core.Bool.{true, false}
+use lib.IntN.{pos}
+use lib.Signed.{lt_z, le_z}
+use borrow.Author.Rules.{rules}
 use Rattle.spoken.proofs.FigureLaws.{no_rise, rise}
-use Rattle.text.proofs.PutLaws.{join}
+use Rattle.text.proofs.PutLaws.{then}
 use Rattle.spoken.proofs.put_change.Goals as goal
 
-pub returns-then-n-le0 : goal.returns-then-n-le0
-returns-then-n-le0 c =
-    let v = c.args.n.v in
-    let f : SFits w64 v = record { sfits = c.struct_told-1.given.0.1 } in
-    rw (no_rise v (rw (to_z-of_z f) at c.if-n-le0.true)) c.put_tenths_of.ensures
+pub returns-then-le : goal.returns-then-le
+returns-then-le c =
+    let falls : le_z c.args.n.v (pos 0) ≡ true = search rules in
+    rw (no_rise c.args.n.v falls) c.put_tenths_of.ensures
 
 pub returns : goal.returns
 returns c =
-    let v = c.args.n.v in
-    let f : SFits w64 v = record { sfits = c.struct_told-1.given.0.1 } in
-    rw (rise v (rw (to_z-of_z f) at c.if-n-le0.false)) (join c.put_byte-behind.ensures c.put_tenths_of-2.ensures)
+    let rises : le_z c.args.n.v (pos 0) ≡ false = search rules in
+    rw (rise c.args.n.v rises) (then c.byte.ensures c.put_tenths_of-2.ensures)

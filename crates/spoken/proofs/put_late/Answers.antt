@@ -1,6 +1,6 @@
 -- `put_late` meets its contract: words, minutes and words, one behind the other. Assumes nothing.
-use Rattle.text.proofs.PutLaws.{join}
+use Rattle.text.proofs.PutLaws.{then}
 use Rattle.spoken.proofs.put_late.Goals as goal
 
 pub returns : goal.returns
-returns c = join c.put_bytes-number.ensures (join c.put_minutes-behind.ensures c.put_bytes.ensures)
+returns c = then c.bytes.ensures (then c.put_minutes.ensures c.bytes-2.ensures)

@@ -1,6 +1,6 @@
--- `put_pressure` meets its contract: the figure, then its unit. Assumes nothing.
-use Rattle.text.proofs.PutLaws.{join}
+-- `put_pressure` meets its contract: figure and unit, one behind the other. Assumes nothing.
+use Rattle.text.proofs.PutLaws.{then}
 use Rattle.spoken.proofs.put_pressure.Goals as goal
 
 pub returns : goal.returns
-returns c = join c.put_tenths_of-unit.ensures c.put_bytes.ensures
+returns c = then c.put_tenths_of.ensures c.bytes.ensures

@@ -1,6 +1,6 @@
--- `put_vapour` meets its contract: words and figures, one behind the other. Assumes nothing.
-use Rattle.text.proofs.PutLaws.{join}
+-- `put_vapour` meets its contract: three figures and their words, one behind the other. Assumes nothing.
+use Rattle.text.proofs.PutLaws.{then}
 use Rattle.spoken.proofs.put_vapour.Goals as goal
 
 pub returns : goal.returns
-returns c = join c.put_bytes-first.ensures (join c.put_hundredths-behind.ensures (join c.put_bytes-second.ensures (join c.put_hundredths-after.ensures (join c.put_bytes-third.ensures c.put_hundredths.ensures))))
+returns c = then c.bytes.ensures (then c.put_hundredths.ensures (then c.bytes-2.ensures (then c.put_hundredths-2.ensures (then c.bytes-3.ensures c.put_hundredths-3.ensures))))

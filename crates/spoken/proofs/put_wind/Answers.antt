@@ -1,10 +1,8 @@
--- `put_wind` meets its contract: by its test; a speed and a direction one behind the other. Assumes nothing.
-use Rattle.text.proofs.PutLaws.{join}
-use borrow.Author.Tests.{eq-eqb, ne_eqb}
+-- `put_wind` meets its contract: calm, or figures and words, one behind the other. Assumes nothing.
+use borrow.Author.Tests.{ne_eqb}
+use borrow.Author.Rules.{rules}
+use Rattle.text.proofs.PutLaws.{then}
 use Rattle.spoken.proofs.put_wind.Goals as goal
 
-pub returns-then-speed-eq0 : goal.returns-then-speed-eq0
-returns-then-speed-eq0 c = rw (eq-eqb _ 0 c.if-speed-eq0.true) c.put_bytes.ensures
-
 pub returns : goal.returns
-returns c = rw (ne_eqb _ 0 c.if-speed-eq0.false) (join c.put_tenths-unit.ensures (join c.put_bytes-from.ensures (join c.put_natural-sign.ensures c.put_bytes-2.ensures)))
+returns c = rw (ne_eqb c.args.speed 0 (search rules)) (then c.put_tenths.ensures (then c.bytes-2.ensures (then c.natural.ensures c.bytes-3.ensures)))

@@ -7,7 +7,7 @@ use Rattle.message.specs.Receive.{entry_of}
 use Rattle.message.proofs.SingleAnswers.{entry_minute}
 use Rattle.window.specs.Window.{next}
 use Rattle.store.specs.Block.{newest_tests, outcome, Keeps}
-use Rattle.store.specs.declared.Hearing.TheVariants.{Heard}
+use Rattle.std.specs.Prelude.{Ok, Err}
 use Rattle.store.proofs.HearLaws.{offered_heard, offered_refused}
 use Rattle.store.proofs.offer.Goals as goal
 
@@ -18,7 +18,7 @@ returns-then-minute-next c =
     let e = entry_of a.minute a.r in
     -- what is known of the newest
     let following = c.next-next.ensures ∙ ap next c.window_of.ensures in
-    offered_refused s e c.channel_of-c.result a.minute (c.channel_of-c.ensures.0 a.minute) (sym (entry_minute a.minute a.r)) c.why.result
+    offered_refused s e c.channel_of-c.result a.minute (c.channel_of-c.ensures.0 a.minute) (sym (entry_minute a.minute a.r)) (Err c.why.result)
     (subst (λ (n : ℕ). a.minute < n) following c.if-minute-next.true)
     (c.why.ensures e ∙ ap (λ (n : ℕ). outcome (answer (newest_tests n a.minute) e)) following)
 
@@ -33,6 +33,6 @@ returns c =
     let s = a.store.now in
     let e = entry_of a.minute a.r in
     let following = c.next-next.ensures ∙ ap next c.window_of.ensures in
-    subst (λ (x : List ℕ). Keeps s x e Heard) (sym c.keep.ensures)
+    subst (λ (x : List ℕ). Keeps s x e (Ok tt)) (sym c.keep.ensures)
     (offered_heard s e c.channel_of-c.result a.minute (c.channel_of-c.ensures.0 a.minute) (sym (entry_minute a.minute a.r)) c.cell_of-v.result (c.cell_of-v.ensures a.minute)
     (subst (λ (k : ℕ). k ≤ a.minute) following c.if-minute-next.false))

@@ -1,48 +1,28 @@
 -- `work` meets its contract: what the dial tells, then the course. Assumes nothing.
-use mathlib.Core.Path.{sym, ap, subst, ◌∙◌}
-use Rattle.anemometer.specs.Anemometer.{certificate_held, from_bow, measured_as}
-use Rattle.anemometer.proofs.MeasuredLaws.{was_dial, was_certificate, was_speed}
-use Rattle.store.specs.Noting.{course_at, IsCourse}
-use Rattle.store.proofs.NotingLaws.{worked_dial, worked_no_course, worked_beyond, worked_wind}
+use mathlib.Core.Path.{◌≡◌, sym, ap, subst, ◌∙◌}
+use borrow.Author.Rules.{rules}
+use Rattle.std.specs.Prelude.{Some, None, Ok, Err}
+use Rattle.store.proofs.NotingLaws.{told_dial, told_no_course, told_beyond, told_wind}
+use Rattle.store.specs.declared.HearingRefusal.TheVariants.{NoCourse}
 use Rattle.store.proofs.work.Goals as goal
 
-pub returns-in-OutsideDial : goal.returns-in-OutsideDial
-returns-in-OutsideDial c =
-    let a = c.args in
-    let s = a.store.now in
-    worked_dial s a.n (was_dial (certificate_held s) a.n (sym (ap measured_as c.in-OutsideDial.is) ∙ c.measure-told.ensures))
+pub returns-in-Err-OutsideDial : goal.returns-in-Err-OutsideDial
+returns-in-Err-OutsideDial c = told_dial c.args.store.now c.args.n c.measure-told.ensures (search rules)
 
-pub returns-in-NoneThere : goal.returns-in-NoneThere
-returns-in-NoneThere c =
-    let out = c.before.before in
-    let a = c.args in
-    let s = a.store.now in
-    let w = was_certificate (certificate_held s) a.n (sym (ap measured_as c.in-OutsideCertificate.is) ∙ c.measure-told.ensures) in
-    worked_no_course s a.n w.0 (subst (IsCourse (course_at s a.n)) c.in-NoneThere.is c.course_at-course.ensures)
+pub returns-in_err-course-in-Err-OutsideCertificate : goal.returns-in_err-course-in-Err-OutsideCertificate
+returns-in_err-course-in-Err-OutsideCertificate c =
+    let h : c.from_residual.result ≡ Err (NoCourse (record { 0 = c.args.n.minute })) = search rules in
+    rw h (told_no_course c.args.store.now c.args.n c.measure-told.ensures c.course_at.ensures (search rules) (search rules))
 
-pub returns-in-At : goal.returns-in-At
-returns-in-At c =
-    let out = c.before.before in
-    let a = c.args in
-    let s = a.store.now in
-    let w = was_certificate (certificate_held s) a.n (sym (ap measured_as c.in-OutsideCertificate.is) ∙ c.measure-told.ensures) in
-    worked_beyond s a.n w.0 (subst (IsCourse (course_at s a.n)) c.in-At.is c.course_at-course.ensures).0 w.1
+pub returns-in_err-course-in-Ok : goal.returns-in_err-course-in-Ok
+returns-in_err-course-in-Ok c =
+    let h : c.from_residual-in_err-course-in-Ok.result ≡ Err (NoCourse (record { 0 = c.args.n.minute })) = search rules in
+    rw h (told_no_course c.args.store.now c.args.n c.measure-told.ensures c.course_at.ensures (search rules) (search rules))
 
-pub returns-in-NoneThere-course : goal.returns-in-NoneThere-course
-returns-in-NoneThere-course c =
-    let told = c.before.before.before in
-    let a = c.args in
-    let s = a.store.now in
-    let w = was_speed (certificate_held s) a.n (sym (ap measured_as c.in-Speed.is) ∙ c.measure-told.ensures) in
-    worked_no_course s a.n w.0 (subst (IsCourse (course_at s a.n)) c.in-NoneThere-course.is c.course_at-course.ensures)
+pub returns-in_ok-course-in-Err-OutsideCertificate : goal.returns-in_ok-course-in-Err-OutsideCertificate
+returns-in_ok-course-in-Err-OutsideCertificate c =
+    told_beyond c.args.store.now c.args.n c.measure-told.ensures c.course_at.ensures (search rules) {ahead = c.in_ok-course-in-Err-OutsideCertificate.field-0} (search rules)
 
-pub returns-in-At-course : goal.returns-in-At-course
-returns-in-At-course c =
-    let course = c.before.before in
-    let told = course.before.before.before in
-    let a = c.args in
-    let s = a.store.now in
-    let w = was_speed (certificate_held s) a.n (sym (ap measured_as c.in-Speed.is) ∙ c.measure-told.ensures) in
-    let k = subst (IsCourse (course_at s a.n)) c.in-At-course.is c.course_at-course.ensures in
-    worked_wind s a.n w.0 k.0 w.1 c.in-Speed.v.0 c.from_bow.result.0 w.2
-    (c.from_bow.ensures ∙ ap (from_bow a.n.direction) (sym k.1))
+pub returns-in_ok-course-in-Ok : goal.returns-in_ok-course-in-Ok
+returns-in_ok-course-in-Ok c =
+    told_wind c.args.store.now c.args.n c.measure-told.ensures c.course_at.ensures {v = c.in-Ok.v} (search rules) {ahead = c.in_ok-course-in-Ok.field-0} (search rules) c.from_bow.result.0 c.from_bow.ensures

@@ -1,11 +1,9 @@
 -- `entry_over_ice` meets its contract: the one test over the whole table, carried to the place. Assumes nothing.
-use borrow.Author.Tests.{lt-ltb}
 use Rattle.vapour.specs.Vapour.{ice}
-use Rattle.vapour.proofs.TableLaws.{entry_is, near_at, entry_test}
+use Rattle.vapour.proofs.EachEntry.{entry_is}
+use Rattle.vapour.proofs.TableLaws.{near_at, entry_test}
 use Rattle.vapour.proofs.entry_over_ice.Goals as goal
 
 pub returns : goal.returns
 unfolding entry_test
-returns c =
-    let inside = c.requires in
-    rw (c.entry_of_401.ensures, lt-ltb _ 401 inside, entry_is) (near_at ice _ _ tt inside)
+returns c = rw entry_is (near_at ice _ _ tt c.requires)

@@ -1,12 +1,8 @@
 -- `relative_humidity` meets its contract: it is the rounding rule, where there is a saturation. Assumes nothing.
-use borrow.Author.Tests.{eq-eqb}
 use native.Mathlib.Omega.{arith}
 use Rattle.number.specs.Round.{nearest}
 use Rattle.vapour.proofs.RangeLaws.{relative_is}
 use Rattle.vapour.proofs.relative_humidity.Goals as goal
-
-pub returns-then-whole-eq0 : goal.returns-then-whole-eq0
-returns-then-whole-eq0 c = simp (eq-eqb _ _ c.if-whole-eq0.true)
 
 pub returns : goal.returns
 unfolding nearest

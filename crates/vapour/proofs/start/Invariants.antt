@@ -1,5 +1,4 @@
--- `start` meets its contract: the search goes down while e does not reach the place, and every e of the range reaches the first.
--- Assumes nothing.
+-- `start` meets its contract: the search goes down while e does not reach the place. Assumes nothing.
 use Prim.Native.Nat.{◌<◌}
 use Rattle.vapour.proofs.start.Given as goal
 

@@ -1,10 +1,6 @@
 -- `words_of` meets its contract: the records so far are laid, and behind them stand zeros. Assumes nothing.
-use Prim.Native.Nat.{◌-◌, ◌≤◌}
 use Rattle.watchlog.specs.Places.{Laid}
 use Rattle.watchlog.proofs.words_of.Given as goal
 
 abbrev pub invariant-loop-i : goal.invariant-loop-i
-invariant-loop-i l = (l.i ≤ 48) × Laid l.records l.i l.words
-
-abbrev pub decreases-loop-i : goal.decreases-loop-i
-decreases-loop-i l = 48 - l.i
+invariant-loop-i l = Laid l.records l.i l.words

@@ -16,24 +16,6 @@ small c =
     let a = c.args in
     million_small a.s a.k c.cosine-c.result.up c.cosine-c.result.down c.requires.0 c.requires.1 (omega (arith, cosine_most a.s a.k a.r c.cosine-c.ensures))
 
-pub overflow_mul-twice : goal.overflow_mul-twice
-overflow_mul-twice c = omega (arith, bounds (goal.at.overflow_mul-twice c).After-cosine-c)
-
-pub overflow_mul-twice-2 : goal.overflow_mul-twice-2
-overflow_mul-twice-2 c = omega (arith, bounds (goal.at.overflow_mul-twice-2 c).After-cosine-c)
-
-pub overflow_mul-plus : goal.overflow_mul-plus
-overflow_mul-plus c = omega (arith, bounds (goal.at.overflow_mul-plus c).After-cosine-c)
-
-pub overflow_mul-plus-2 : goal.overflow_mul-plus-2
-overflow_mul-plus-2 c = omega (arith, bounds (goal.at.overflow_mul-plus-2 c).After-cosine-c)
-
-pub overflow_add-plus : goal.overflow_add-plus
-overflow_add-plus c = omega (arith, bounds (goal.at.overflow_add-plus c).After-cosine-c)
-
-pub overflow_mul-plus-3 : goal.overflow_mul-plus-3
-overflow_mul-plus-3 c = omega (arith, bounds (goal.at.overflow_mul-plus-3 c).After-cosine-c)
-
 pub overflow_mul-plus-4 : goal.overflow_mul-plus-4
 overflow_mul-plus-4 c = omega (arith, bounds (goal.at.overflow_mul-plus-4 c).After-cosine-c)
 

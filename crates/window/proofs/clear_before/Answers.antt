@@ -24,6 +24,6 @@ returns c =
     let a = c.args in (
       search rules,
       search rules,
-      ap₂ (λ (x : List ℕ) (from : ℕ). mark (wiped x from (a.m - from)) a.m) c.wipe-2.ensures c.larger.ensures
+      ap₂ (λ (x : List ℕ) (from : ℕ). mark (wiped x from (a.m - from)) a.m) c.wipe-2.ensures c.max.ensures
           ∙ jumped_on a.window.now a.t a.m (search rules) (a.m - a.m % 64) (search rules) (search rules),
     )

@@ -5,11 +5,6 @@ use Rattle.window.proofs.BitLaws.{bit_lt}
 use Rattle.window.proofs.CountLaws.{ones_masked, total_le}
 use Rattle.window.proofs.ones_in.Goals as goal
 
-pub overflow_cast-result : goal.overflow_cast-result
-overflow_cast-result c =
-    let e = ones_masked c.args.w c.args.o c.args.n (omega arith) in
-    omega (arith, e, total_le (bit c.args.w) c.args.n c.args.o (bit_lt c.args.w))
-
 pub returns : goal.returns
 returns c =
     let e = ones_masked c.args.w c.args.o c.args.n (omega arith) in

@@ -2,7 +2,7 @@
 -- nothing.
 use mathlib.Core.Path.{◌≡◌, refl, sym, ap, ◌∙◌}
 use mathlib.Core.List.{[], ◌∷◌, ◌++◌}
-use Prim.Native.Nat.{ℕ, ◌+◌, ◌-◌, ◌<◌}
+use Prim.Native.Nat.{ℕ, ◌+◌, ◌<◌}
 use native.Mathlib.Omega.{arith}
 use lib.ListN.{length, take}
 use borrow.Author.Tests.{not-true, not-false}
@@ -31,7 +31,7 @@ loop-i-init c =
     let start = c.args in
     let all = offered start.records.now in
     let e = rest_whole all start.count in
-    (omega arith, omega arith, omega arith, rw e (omega (arith, length_file (take start.count all))), λ rule dew. rw e refl)
+    (omega arith, omega arith, rw e (omega (arith, length_file (take start.count all))), λ rule dew. rw e refl)
 
 pub returns-then-i-ge-RECORDS : goal.returns-then-i-ge-RECORDS
 returns-then-i-ge-RECORDS c =
@@ -42,7 +42,7 @@ returns-then-i-ge-RECORDS c =
     let file = length (file_of (take count all)) in
     record {
       room = tt;
-      answer = λ rule dew. sym (l.invariant.4 rule dew ∙ tests_none all count l.i none rule l.before (past count ∷ []) file ∙ past_stops count file (omega arith));
+      answer = λ rule dew. sym (l.invariant.3 rule dew ∙ tests_none all count l.i none rule l.before (past count ∷ []) file ∙ past_stops count file (omega arith));
     }
 
 pub returns-then-not-record_right : goal.returns-then-not-record_right
@@ -57,7 +57,7 @@ returns-then-not-record_right c =
     let inside : l.i < length all = omega (arith, length_offered w, c.requires) in
     record {
       room = tt;
-      answer = λ rule dew. sym (l.invariant.4 rule dew ∙ tests_stop all count l.i c.loop-i-test.true inside rule l.before (past count ∷ []) file (ap (record_right rule l.before) (sym is) ∙ sym (c.record_right.ensures rule dew) ∙ wrong));
+      answer = λ rule dew. sym (l.invariant.3 rule dew ∙ tests_stop all count l.i c.loop-i-test.true inside rule l.before (past count ∷ []) file (ap (record_right rule l.before) (sym is) ∙ sym (c.record_right.ensures rule dew) ∙ wrong));
     }
 
 pub overflow_add-size : goal.overflow_add-size
@@ -87,8 +87,7 @@ loop-i-preserved c =
       omega arith,
       omega arith,
       omega arith,
-      omega arith,
-      λ rule dew. l.invariant.4 rule dew ∙ tests_on all count l.i more inside rule l.before (past count ∷ []) file (ap (record_right rule l.before) (sym is) ∙ sym (c.record_right.ensures rule dew) ∙ right)
+      λ rule dew. l.invariant.3 rule dew ∙ tests_on all count l.i more inside rule l.before (past count ∷ []) file (ap (record_right rule l.before) (sym is) ∙ sym (c.record_right.ensures rule dew) ∙ right)
           ∙ ap (λ (j : ℕ). answer (record_tests rule (l.i + 1) j (rest all count (l.i + 1)) ++ (past count ∷ [])) file) (sym k),
     )
 
@@ -104,5 +103,5 @@ returns c =
     let z : l.size ≡ file = omega arith in
     record {
       room = (omega arith, z);
-      answer = λ rule dew. rw z (sym (l.invariant.4 rule dew ∙ tests_none all start.count l.i none rule l.before (past start.count ∷ []) file ∙ past_goes_on start.count file (omega arith)));
+      answer = λ rule dew. rw z (sym (l.invariant.3 rule dew ∙ tests_none all start.count l.i none rule l.before (past start.count ∷ []) file ∙ past_goes_on start.count file (omega arith)));
     }

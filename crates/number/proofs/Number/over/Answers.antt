@@ -1,12 +1,8 @@
--- `Number::over` meets its contract: twice the numerator and the denominator fit, and rounding makes no number larger. Assumes nothing.
+-- `Number::over` meets its contract: rounding makes no number larger. Assumes nothing.
 use native.Mathlib.Omega.{arith}
 use Rattle.number.specs.Round.{nearest}
 use Rattle.number.proofs.RoundLaws.{nearest_le, rounded_signed}
 use Rattle.number.proofs.Number.over.Goals as goal
-
-pub signed-requires : goal.signed-requires
-unfolding nearest
-signed-requires c = omega (arith, nearest_le c.size-n.result c.args.den c.requires.0)
 
 pub returns : goal.returns
 unfolding nearest

@@ -1,8 +1,0 @@
--- `put_humidity` meets its contract: case by case. Assumes nothing.
-use Rattle.answer.proofs.put_humidity.Goals as goal
-
-pub returns-in-Given : goal.returns-in-Given
-returns-in-Given c = rw c.in-Given.is c.put_figures.ensures
-
-pub returns-in-Refused : goal.returns-in-Refused
-returns-in-Refused c = rw c.in-Refused.is c.put_question_refusal.ensures

@@ -1,8 +1,0 @@
--- `put_wind` meets its contract: case by case. Assumes nothing.
-use Rattle.answer.proofs.put_wind.Goals as goal
-
-pub returns-in-Given : goal.returns-in-Given
-returns-in-Given c = rw c.in-Given.is c.put_true_wind.ensures
-
-pub returns-in-Refused : goal.returns-in-Refused
-returns-in-Refused c = rw c.in-Refused.is c.put_question_refusal.ensures

@@ -1,0 +1,7 @@
+-- `dry_bulb_at` meets its contract: what its channel keeps is a dry bulb's temperature. Assumes nothing.
+use mathlib.Core.Path.{sym}
+use Rattle.station.proofs.KindLaws.{no_dry_bulb}
+use Rattle.station.proofs.dry_bulb_at.Goals as goal
+
+pub returns-in_default : goal.returns-in_default
+returns-in_default c = no_dry_bulb c.args.store.now c.args.minute c.in_ok-t.field-0 (sym c.in_ok-t.ensures) c.in_default.not-DryBulb

@@ -1,9 +1,0 @@
--- `store_humidities` ends: the number of those left falls. Assumes nothing.
-use Rattle.std.proofs.Common.{◌-◌, ◌≤◌}
-use Rattle.torn.proofs.store_humidities.Given as goal
-
-abbrev pub invariant-loop-i : goal.invariant-loop-i
-invariant-loop-i l = l.i ≤ 48
-
-abbrev pub decreases-loop-i : goal.decreases-loop-i
-decreases-loop-i l = 48 - l.i
