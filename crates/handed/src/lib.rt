@@ -2,11 +2,11 @@
 // does not fit its bytes, make a record that breaks the file rules.
 #![tactic(auto)]
 
-ghost use Rattle.std.specs.Prelude.{◌≡◌, cond, Some, None, ◌≤◌, nat_abs, length};
+ghost use Rattle.std.specs.Prelude.{◌≡◌, true, ◌≤◌, nat_abs, length};
 ghost use Rattle.handed.specs.Handed.{half, octet, pressure_body, tendency_body, wind_body, humidity_body, body_of, record_of};
 ghost use Rattle.handed.specs.Words.{AreWords, figures_in, record_at, records_in};
 
-use number::Kept;
+use number::{Kept, Number};
 use watchfile::{BLANK, Body, Figures, Record};
 
 // The words of a record.
@@ -14,70 +14,123 @@ pub const WORDS: usize = 7;
 
 // ---- a record as it is handed over
 
-// The two bytes of a number that fits them, or the one.
-fn half_of(n: Kept) -> Option<u16>
-    ensures { result ≡ cond (half n.v) (Some (nat_abs n.v)) None }
+// (Tried: `try_from` and Options, put together by a `match`. Writing a file of 48 records then costs twice as much as plain Rust; so it costs
+// what plain Rust does.)
+// Whether a number fits two bytes, or one.
+fn is_half(n: Kept) -> bool
+    ensures { result ≡ half n.v }
 {
-    u16::try_from(n.v).ok()
+    n.number().within(Number { v: 0 }, Number { v: 65535 })
 }
 
-fn octet_of(n: Kept) -> Option<u8>
-    ensures { result ≡ cond (octet n.v) (Some (nat_abs n.v)) None }
+fn is_octet(n: Kept) -> bool
+    ensures { result ≡ octet n.v }
 {
-    u8::try_from(n.v).ok()
+    n.number().within(Number { v: 0 }, Number { v: 255 })
+}
+
+// The two bytes of a number that fits them, or the one.
+fn half_of(n: Kept) -> u16
+    requires { half n.v ≡ true }
+    ensures { result ≡ nat_abs n.v }
+{
+    n.number().size() as u16
+}
+
+fn octet_of(n: Kept) -> u8
+    requires { octet n.v ≡ true }
+    ensures { result ≡ nat_abs n.v }
+{
+    n.number().size() as u8
 }
 
 // The bodies that a record's figures make, or one of its kind that no file may hold, where they do not fit it.
-fn pressure_body(r: Figures) -> Body
-    ensures { result ≡ pressure_body r.first.v }
+fn pressure_body(first: Kept) -> Body
+    ensures { result ≡ pressure_body first.v }
 {
-    Body::Pressure(half_of(r.first).unwrap_or(0))
+    if is_half(first) {
+        return Body::Pressure(half_of(first));
+    }
+    Body::Pressure(0)
 }
 
-fn tendency_body(r: Figures) -> Body
-    ensures { result ≡ tendency_body r.first r.second.v }
+fn tendency_body(first: Kept, second: Kept) -> Body
+    ensures { result ≡ tendency_body first second.v }
 {
+    if is_octet(second) {
+        return Body::Tendency {
+            change: first,
+            absent: octet_of(second),
+        };
+    }
     Body::Tendency {
-        change: r.first,
-        absent: octet_of(r.second).unwrap_or(255),
+        change: first,
+        absent: 255,
     }
 }
 
-fn wind_body(r: Figures) -> Body
-    ensures { result ≡ wind_body r.first.v r.second.v }
+fn wind_body(first: Kept, second: Kept) -> Body
+    ensures { result ≡ wind_body first.v second.v }
 {
-    match (half_of(r.first), half_of(r.second)) {
-        (Some(speed), Some(direction)) => Body::Wind { speed, direction },
-        _ => Body::Wind {
-            speed: 0,
-            direction: 1,
-        },
+    if is_half(first) {
+        if is_half(second) {
+            return Body::Wind {
+                speed: half_of(first),
+                direction: half_of(second),
+            };
+        }
+    }
+    Body::Wind {
+        speed: 0,
+        direction: 1,
     }
 }
 
-fn humidity_body(r: Figures) -> Body
-    ensures { result ≡ humidity_body r.first.v r.second.v r.third.v r.fourth.v r.fifth }
+fn humidity_body(first: Kept, second: Kept, third: Kept, fourth: Kept, fifth: Kept) -> Body
+    ensures { result ≡ humidity_body first.v second.v third.v fourth.v fifth }
 {
-    match (
-        half_of(r.first),
-        half_of(r.second),
-        half_of(r.third),
-        octet_of(r.fourth),
-    ) {
-        (Some(e), Some(saturation), Some(deficit), Some(relative)) => Body::Humidity {
-            e,
-            saturation,
-            deficit,
-            relative,
-            dew: r.fifth,
-        },
-        _ => Body::Humidity {
+    if !is_half(first) {
+        return Body::Humidity {
             e: 0,
             saturation: 0,
             deficit: 0,
             relative: 0,
-            dew: r.fifth,
-        },
+            dew: fifth,
+        };
+    }
+    if !is_half(second) {
+        return Body::Humidity {
+            e: 0,
+            saturation: 0,
+            deficit: 0,
+            relative: 0,
+            dew: fifth,
+        };
+    }
+    if !is_half(third) {
+        return Body::Humidity {
+            e: 0,
+            saturation: 0,
+            deficit: 0,
+            relative: 0,
+            dew: fifth,
+        };
+    }
+    if !is_octet(fourth) {
+        return Body::Humidity {
+            e: 0,
+            saturation: 0,
+            deficit: 0,
+            relative: 0,
+            dew: fifth,
+        };
+    }
+    Body::Humidity {
+        e: half_of(first),
+        saturation: half_of(second),
+        deficit: half_of(third),
+        relative: octet_of(fourth),
+        dew: fifth,
     }
 }
 
@@ -85,22 +138,34 @@ fn humidity_body(r: Figures) -> Body
 fn body_of(r: Figures) -> Body
     ensures { result ≡ body_of r }
 {
-    match r.kind {
-        1 => pressure_body(r),
-        2 => tendency_body(r),
-        3 => wind_body(r),
-        4 => humidity_body(r),
-        _ => Body::Pressure(0),
+    let first = r.first;
+    let second = r.second;
+    if r.kind == 1 {
+        return pressure_body(first);
     }
+    if r.kind == 2 {
+        return tendency_body(first, second);
+    }
+    if r.kind == 3 {
+        return wind_body(first, second);
+    }
+    if r.kind == 4 {
+        let third = r.third;
+        let fourth = r.fourth;
+        let fifth = r.fifth;
+        return humidity_body(first, second, third, fourth, fifth);
+    }
+    Body::Pressure(0)
 }
 
 // The record that figures make.
 pub fn record_of(r: Figures) -> Record
     ensures { result ≡ record_of r }
 {
+    let body = body_of(r);
     Record {
         minute: r.minute,
-        body: body_of(r),
+        body,
     }
 }
 
@@ -124,53 +189,69 @@ fn figures_in(row: &[u32]) -> Figures
 
 // ---- a record as words
 
+fn pressure_words(minute: u32, pressure: u16) -> [u32; WORDS]
+    ensures { AreWords (Body.Pressure pressure) minute result }
+{
+    [1, minute, pressure as u32, 0, 0, 0, 0]
+}
+
+fn tendency_words(minute: u32, change: Kept, absent: u8) -> [u32; WORDS]
+    ensures { AreWords (Body.Tendency change absent) minute result }
+{
+    let first = octets::word_of(change);
+    [2, minute, first, absent as u32, 0, 0, 0]
+}
+
+fn wind_words(minute: u32, speed: u16, direction: u16) -> [u32; WORDS]
+    ensures { AreWords (Body.Wind speed direction) minute result }
+{
+    [3, minute, speed as u32, direction as u32, 0, 0, 0]
+}
+
+fn humidity_words(
+    minute: u32,
+    e: u16,
+    saturation: u16,
+    deficit: u16,
+    relative: u8,
+    dew: Kept,
+) -> [u32; WORDS]
+    ensures { AreWords (Body.Humidity e saturation deficit relative dew) minute result }
+{
+    let fifth = octets::word_of(dew);
+    [
+        4,
+        minute,
+        e as u32,
+        saturation as u32,
+        deficit as u32,
+        relative as u32,
+        fifth,
+    ]
+}
+
 // The words of a record, from which it comes back.
 pub fn words(r: Record) -> [u32; WORDS]
     ensures { AreWords r.body r.minute result }
 {
-    let minute = r.minute;
-    match r.body {
-        Body::Pressure(pressure) => [1, minute, u32::from(pressure), 0, 0, 0, 0],
-        Body::Tendency { change, absent } => [
-            2,
-            minute,
-            octets::word_of(change),
-            u32::from(absent),
-            0,
-            0,
-            0,
-        ],
-        Body::Wind { speed, direction } => [
-            3,
-            minute,
-            u32::from(speed),
-            u32::from(direction),
-            0,
-            0,
-            0,
-        ],
+    let body = r.body;
+    match body {
+        Body::Pressure(pressure) => pressure_words(r.minute, pressure),
+        Body::Tendency { change, absent } => tendency_words(r.minute, change, absent),
+        Body::Wind { speed, direction } => wind_words(r.minute, speed, direction),
         Body::Humidity {
             e,
             saturation,
             deficit,
             relative,
             dew,
-        } => [
-            4,
-            minute,
-            u32::from(e),
-            u32::from(saturation),
-            u32::from(deficit),
-            u32::from(relative),
-            octets::word_of(dew),
-        ],
+        } => humidity_words(r.minute, e, saturation, deficit, relative, dew),
     }
 }
 
 // ---- words as records
 
 // How many records words hold; of what is left behind the last, none is made.
-#[tactic(auto, using(crate::proofs::WordLaws::length_records))]
 pub fn count(words: &[u32]) -> usize
     ensures { result ≡ length (records_in words.now) }
 {
@@ -184,5 +265,6 @@ pub fn record_at(words: &[u32], i: usize) -> Record
     if count(words) <= i {
         return BLANK;
     }
-    record_of(figures_in(&words[WORDS * i..]))
+    let at = WORDS * i;
+    record_of(figures_in(&words[at..]))
 }

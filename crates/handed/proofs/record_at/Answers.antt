@@ -13,11 +13,11 @@ returns-then-count-i c =
     let q = c.args in
     rw (le-ltb q.i (held q.words.now) (omega (arith, c.count.ensures, length_records q.words.now, c.if-count-i.true)))
 
-pub overflow_mul-i : goal.overflow_mul-i
-overflow_mul-i c = omega (arith, c.count.ensures, length_records c.args.words.now)
+pub overflow_mul-at : goal.overflow_mul-at
+overflow_mul-at c = omega (arith, c.count.ensures, length_records c.args.words.now)
 
-pub offset_bounds-words-i : goal.offset_bounds-words-i
-offset_bounds-words-i c = omega (arith, c.count.ensures, length_records c.args.words.now)
+pub offset_bounds-words-at : goal.offset_bounds-words-at
+offset_bounds-words-at c = omega (arith, c.count.ensures, length_records c.args.words.now)
 
 pub slice_bounds-figures_in-count : goal.slice_bounds-figures_in-count
 slice_bounds-figures_in-count c = omega (arith, c.count.ensures, length_records c.args.words.now)
