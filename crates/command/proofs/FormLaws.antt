@@ -1,9 +1,9 @@
 -- Laws of forms: what the next letter and the next field or word say decides what all from them on say, and the numbers of one word
 -- behind those of another are the two of them joined. Assumes nothing.
 use mathlib.Core.Path.{◌≡◌, refl, sym, ap, ◌∙◌}
-use mathlib.Core.Bool.{Bool, true, false, cond}
+use mathlib.Core.Bool.{Bool, true, false}
 use mathlib.Core.List.{List, [], ◌∷◌}
-use Prim.Native.Nat.{ℕ, zero, suc, ◌+◌, ◌-◌, ◌≤◌, ◌<◌}
+use Prim.Native.Nat.{ℕ, suc, ◌+◌, ◌-◌, ◌≤◌, ◌<◌}
 use native.Mathlib.Omega.{arith}
 use native.Mathlib.Numerals.{add-one}
 use lib.Dec.{eqb}
@@ -14,11 +14,10 @@ use Rattle.text.specs.Text.{put, behind as place_behind, Put}
 use Rattle.number.proofs.Sizes.{impossible}
 use Rattle.text.proofs.PutLaws.{join, put_nothing}
 use Rattle.line.specs.Words.{Word, before, words_from, words, colon, field, field_end, more, fields, same, part, word_at, words_at}
-use Rattle.std.specs.Prelude.{Option, Some, None, Result, Ok, Err, nat_eq, is_some}
+use Rattle.std.specs.Prelude.{Option, Some, None, Result, Ok, Err, is_some}
 use Rattle.line.specs.declared.Place.{Place}
-use Rattle.std.specs.Cmp.Lexicographic.{pointwise}
 use Rattle.line.proofs.EndLaws.{before_end}
-use Rattle.line.proofs.WordLaws.{WordIs, same_is, part_cons, part_length}
+use Rattle.line.proofs.WordLaws.{WordIs, part_cons, part_length}
 use Rattle.command.specs.Forms.{told, Told, ends, behind, letter_then, fields_told, picks, says, fits, list_told, left_told, word_told, may_end, fault_of, place_of, line_told}
 use Rattle.command.specs.Commands.{table, by_table, remark, command_of, text_of, verb_at, rows_of}
 use Rattle.command.specs.Laid.{placed, Lays, Parses}
@@ -88,11 +87,11 @@ parses g = record { numbers = g.numbers; command = g.command }
 pub parses_ends : (b : List ℕ) (r : Result (Option Deed) Fault) → Parses b b (ends r) r
 parses_ends b r = parses (leaves_ends b 0 r)
 
--- ---- letters
+-- ---- the name of a row
 
--- what `==` tells of a text
-pub text_is : (a : List ℕ) {b : List ℕ} {r : Bool} (s : List ℕ) → b ≡ s → r ≡ pointwise nat_eq a b → r ≡ same a s
-text_is a s e h = h ∙ ap (pointwise nat_eq a) e ∙ sym (same_is a s)
+-- what was told of a part of the line, where that ends with the word
+pub named : (line text : List ℕ) (from to end : ℕ) {told is : Bool} → told ≡ same (part line from end) text → end ≡ to → told ≡ is → same (part line from to) text ≡ is
+named line text from to end t e i = ap (λ (k : ℕ). same (part line from k) text) (sym e) ∙ sym t ∙ i
 
 -- ---- the fields of a word
 

@@ -10,7 +10,7 @@ ghost use Rattle.command.specs.Commands.{verb_at, rows_of, by_table, command_of}
 ghost use Rattle.command.specs.Laid.{Lays, Parses};
 
 use hexadecimal::is_hex;
-use line::{Place, field_end, next_word, signed, whole};
+use line::{Place, field_end, next_word, same, signed, whole};
 use values::ANEMOMETER;
 
 // The letter of a form for a word in hex, which may be left out.
@@ -89,14 +89,14 @@ fn told(letter: u8, text: &[u8]) -> Option<u64>
         b'o' => whole(text, 255),
         b'z' => signed(text),
         b'u' => {
-            if text == b"hPa".as_slice() {
+            if same(text, b"hPa") {
                 return Some(0);
             }
-            only(text == b"mmHg".as_slice(), 1)
+            only(same(text, b"mmHg"), 1)
         }
         b'x' => only(is_hex(text), 0),
-        b'a' => only(text == b"anemometer".as_slice(), ANEMOMETER),
-        _ => only(text == [letter].as_slice(), letter as u64),
+        b'a' => only(same(text, b"anemometer"), ANEMOMETER),
+        _ => only(same(text, &[letter]), letter as u64),
     }
 }
 
@@ -289,7 +289,7 @@ fn by_table(
         let Some(form) = next_word(table, name.to) else {
             break;
         };
-        if line[word.from..word.to] == table[name.from..name.to] {
+        if same(&line[word.from..word.to], &table[name.from..name.to]) {
             let letters = form.from + 1;
             return lay_line(
                 verb_at(row),

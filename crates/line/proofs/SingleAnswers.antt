@@ -15,6 +15,7 @@ use Rattle.line.proofs.WordLaws.{part_length}
 use Rattle.line.proofs.next_word.Reads as next_word
 use Rattle.line.proofs.word.Reads as word
 use Rattle.line.proofs.field_end.Reads as field_end
+use Rattle.line.proofs.same.Reads as same
 use Rattle.line.proofs.whole.Reads as whole
 use Rattle.line.proofs.signed.Reads as signed
 
@@ -53,6 +54,9 @@ single_word κs a r r' s s' p q = p ∙ sym q
 
 pub single_field_end : Single field_end.Post
 single_field_end κs a r r' s s' p q = p ∙ sym q
+
+pub single_same : Single same.Post
+single_same κs a r r' s s' p q = p ∙ sym q
 
 pub single_whole : Single whole.Post
 single_whole κs a r r' s s' p q = p ∙ sym q

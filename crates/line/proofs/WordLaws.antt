@@ -8,7 +8,7 @@ use native.Mathlib.Omega.{arith}
 use native.Mathlib.Numerals.{add-one}
 use native.Mathlib.Nat.{le_refl, add-zero}
 use lib.Dec.{eqb}
-use lib.ListN.{length, get_or, drop, length-take, length-drop, drop_of_length-le}
+use lib.ListN.{length, get_or, take, drop, length-take, length-drop, drop_of_length-le}
 use lib.Seq.{drop-cons, drop-drop, take_all}
 use Rattle.std.specs.Prelude.{Option, Some, None, nat_eq}
 use Rattle.std.specs.Cmp.Lexicographic.{pointwise}
@@ -133,3 +133,18 @@ same_is [] [] = refl
 same_is [] (y ∷ b) = refl
 same_is (x ∷ a) [] = refl
 same_is (x ∷ a) (y ∷ b) = ap (λ (t : Bool). eqb x y && t) (same_is a b)
+
+-- and what it tells of the front of one that is as long as the other; of two that are not, they differ
+pub same_taken : (a b : List ℕ) (n : ℕ) {r : Bool} → length a ≡ length b → n ≡ length b → r ≡ pointwise nat_eq (take n a) b → r ≡ same a b
+same_taken a b n e m h = h ∙ ap (λ (x : List ℕ). pointwise nat_eq x b) (take_all n a (omega arith)) ∙ sym (same_is a b)
+
+pub same_apart : (a b : List ℕ) → (length a ≡ length b → ⊥) → false ≡ same a b
+unfolding same
+same_apart [] [] h = absurd (h refl)
+same_apart [] (y ∷ b) h = refl
+same_apart (x ∷ a) [] h = refl
+same_apart (x ∷ a) (y ∷ b) h = go (same_apart a b (λ e. h (ap suc e))) (eqb x y)
+  where
+    go : false ≡ same a b → (t : Bool) → false ≡ (t && same a b)
+    go ih true = ih
+    go ih false = refl

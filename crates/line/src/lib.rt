@@ -2,7 +2,7 @@
 #![tactic(auto)]
 
 ghost use Rattle.std.specs.Prelude.{◌≡◌, ◌+◌};
-ghost use Rattle.line.specs.Words.{blank, words, word_number, field_end};
+ghost use Rattle.line.specs.Words.{blank, same, words, word_number, field_end};
 ghost use Rattle.line.specs.Numeral.{minus, natural, up_to, whole, signed};
 ghost use Rattle.line.specs.Next.{Start, WordEnd, NextWord};
 
@@ -85,6 +85,15 @@ pub fn field_end(word: &[u8], at: usize) -> usize
         }
     }
     at.max(word.len())
+}
+
+// Whether two texts are the same. (Two of the lemmas are for a wrong program, which compares the front of a longer text: the same shape with
+// the right test is proved by them.)
+#[tactic(auto, using(crate::proofs::WordLaws::same_is, crate::proofs::WordLaws::same_taken, crate::proofs::WordLaws::same_apart))]
+pub fn same(a: &[u8], b: &[u8]) -> bool
+    ensures { result ≡ same a.now b.now }
+{
+    a == b
 }
 
 // ---- numbers

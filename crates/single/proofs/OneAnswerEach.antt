@@ -187,6 +187,7 @@ use Rattle.answer.proofs.put_written.Reads as answer-put-written
 use Rattle.line.proofs.SingleAnswers as line
 use Rattle.line.proofs.next_word.Reads as line-next-word
 use Rattle.line.proofs.field_end.Reads as line-field-end
+use Rattle.line.proofs.same.Reads as line_same
 use Rattle.line.proofs.whole.Reads as line-whole
 use Rattle.line.proofs.signed.Reads as line-signed
 use Rattle.hexadecimal.proofs.SingleAnswers as hex
@@ -472,6 +473,7 @@ pub record OneAnswerEach : Type 0 where
   pub line-next_word-single : Single line-next-word.Post
   pub line-word-single : line.SingleWord
   pub line-field_end-single : Single line-field-end.Post
+  pub line-same-single : Single line_same.Post
   pub line-whole-single : Single line-whole.Post
   pub line-signed-single : Single line-signed.Post
   -- hex
@@ -762,6 +764,7 @@ one_answer_each =
       line-next_word-single = line.single_next_word;
       line-word-single = line.single_word;
       line-field_end-single = line.single_field_end;
+      line-same-single = line.single_same;
       line-whole-single = line.single_whole;
       line-signed-single = line.single_signed;
       hexadecimal-is_hex-single = hex.single_is_hex;

@@ -1,11 +1,8 @@
 -- `told` meets its contract: letter by letter. Assumes nothing.
 use mathlib.Core.Path.{sym, ◌∙◌}
-use mathlib.Core.List.{[], ◌∷◌}
 use borrow.Author.Tests.{ne_eqb}
 use borrow.Author.Rules.{rules}
-use Rattle.text.specs.Letters.{letters}
 use Rattle.command.specs.Forms.{told}
-use Rattle.command.proofs.FormLaws.{text_is}
 use Rattle.command.proofs.told.Goals as goal
 
 pub returns-in-110 : goal.returns-in-110
@@ -24,18 +21,13 @@ pub returns-in-122 : goal.returns-in-122
 unfolding told
 returns-in-122 c = rw c.in-122.is c.signed.ensures
 
-pub returns-then-eq : goal.returns-then-eq
+pub returns-then-same : goal.returns-then-same
 unfolding told
-returns-then-eq c = rw (c.in-117.is, sym (text_is c.args.text.now (letters "hPa") c.as_slice.ensures c.eq.ensures) ∙ c.if-eq.true)
+returns-then-same c = rw (c.in-117.is, sym c.same.ensures ∙ c.if-same.true)
 
-pub returns-else-eq : goal.returns-else-eq
+pub returns-else-same : goal.returns-else-same
 unfolding told
-returns-else-eq c =
-    rw (
-      c.in-117.is,
-      sym (text_is c.args.text.now (letters "hPa") c.as_slice.ensures c.eq.ensures) ∙ c.if-eq.false,
-      ← text_is c.args.text.now (letters "mmHg") c.as_slice-in-117.ensures c.eq-in-117.ensures,
-    ) c.only.ensures
+returns-else-same c = rw (c.in-117.is, sym c.same.ensures ∙ c.if-same.false, ← c.same-in-117.ensures) c.only.ensures
 
 pub returns-in-120 : goal.returns-in-120
 unfolding told
@@ -43,7 +35,7 @@ returns-in-120 c = rw (c.in-120.is, ← c.is_hex.ensures) c.only-in-120.ensures
 
 pub returns-in-97 : goal.returns-in-97
 unfolding told
-returns-in-97 c = rw (c.in-97.is, ← text_is c.args.text.now (letters "anemometer") c.as_slice-in-97.ensures c.eq-in-97.ensures) c.only-in-97.ensures
+returns-in-97 c = rw (c.in-97.is, ← c.same-in-97.ensures) c.only-in-97.ensures
 
 pub returns-in_default : goal.returns-in_default
 unfolding told
@@ -56,5 +48,5 @@ returns-in_default c =
       ne_eqb c.args.letter 117 (search rules),
       ne_eqb c.args.letter 120 (search rules),
       ne_eqb c.args.letter 97 (search rules),
-      ← text_is c.args.text.now (c.args.letter ∷ []) c.as_slice-in_default.ensures c.eq-in_default.ensures,
+      ← c.same-in_default.ensures,
     ) c.only-in_default.ensures
