@@ -1,11 +1,13 @@
 -- What the parts of a question come to in the whole: each law says, of a list of tests, which of them refuses. By whether each
 -- test holds. Assumes nothing.
 use mathlib.Core.Path.{◌≡◌, refl, sym, ap, subst, ◌∙◌}
-use mathlib.Core.Bool.{Bool, true, false, cond}
+use mathlib.Core.Bool.{Bool, true, false, cond, not}
 use mathlib.Core.List.{List, [], ◌∷◌, ◌++◌}
 use Prim.Native.Nat.{ℕ}
 use Rattle.number.specs.Refusal.{Numbered, Test, Answer, refused, given, answer}
 use Rattle.number.proofs.Sizes.{impossible}
+use Rattle.block.specs.Words.{is_store}
+use Rattle.store.specs.Block.{no_store}
 use Rattle.station.specs.Questions.{Answers}
 
 -- a refusal's number, 0 for what is given: two answers of different numbers are different
@@ -29,6 +31,11 @@ stop t ts Rule h = rw h
 pub end : {A : Type 0} (Rule : A → Type 0) (x : A) → Rule x → Answers [] Rule (given x)
 unfolding answer Answers
 end Rule x w = (refl, w)
+
+-- a block that is no store, where a question tests it first of all
+pub no_store_told : {A : Type 0} (s : List ℕ) (ts : List (Test Numbered)) (Rule : A → Type 0) {marked : Bool} → marked ≡ is_store s → not marked ≡ true
+    → Answers (no_store s ∷ ts) Rule (refused (no_store s).refusal)
+no_store_told s ts Rule is h = stop (no_store s) ts Rule (ap not (sym is) ∙ h)
 
 -- ---- a part of a question, and the tests behind its own
 
@@ -62,6 +69,17 @@ pub goes_on : {A B : Type 0} (ts us : List (Test Numbered)) (Rule : A → Type 0
 unfolding Answers
 goes_on ts us Rule Rule' x (refused r) w v = let_through ts us w.0 ∙ v
 goes_on ts us Rule Rule' x (given y) w v = (let_through ts us w.0 ∙ v.0, v.1)
+
+-- the same tests and another rule: what they refuse is refused, and what they let pass is given by it
+pub refused_so : {A B : Type 0} (ts : List (Test Numbered)) (Rule : A → Type 0) (Rule' : B → Type 0) (r : Numbered)
+    → Answers ts Rule (refused r) → Answers ts Rule' (refused r)
+unfolding Answers
+refused_so ts Rule Rule' r w = w
+
+pub told_so : {A B : Type 0} (ts : List (Test Numbered)) (Rule : A → Type 0) (Rule' : B → Type 0) (x : A) (y : B)
+    → Rule' y → Answers ts Rule (given x) → Answers ts Rule' (given y)
+unfolding Answers
+told_so ts Rule Rule' x y v w = (w.0, v)
 
 -- and that is by its rule
 pub by_rule : {A : Type 0} (ts : List (Test Numbered)) (Rule : A → Type 0) (x : A) → Answers ts Rule (given x) → Rule x

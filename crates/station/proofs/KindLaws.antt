@@ -24,7 +24,7 @@ use Rattle.cell.specs.Cells.{CHANNELS, recalled, is_present}
 use Rattle.store.specs.Block.{recall_of}
 use Rattle.station.specs.Source.{held}
 use Rattle.station.specs.Questions.{Answers, missing_at}
-use Rattle.station.specs.Parts.{Keeps, part_as}
+use Rattle.station.specs.Parts.{Keeps, part_as, channel_as}
 use Rattle.station.specs.declared.QuestionRefusal.{QuestionRefusal}
 use Rattle.station.specs.declared.QuestionRefusal.TheVariants.{MissingReading}
 use Rattle.station.proofs.AnswerLaws.{pass, stop, end}
@@ -98,3 +98,9 @@ module _ (s : List ℕ) (c m : ℕ) {A : Type 0} (of : A → Reading) where
       → Answers (missing_at (held s) m c ∷ []) (λ a. recall_of s c m ≡ recalled (entry_of m (of a))) (part_as r)
   reads_kind None gone r e = rw e (stop _ _ _ (ap not gone))
   reads_kind (Some a) is r e = rw e (pass _ _ _ _ (ap not (ap is_present is)) (end _ _ is))
+
+  -- and where it tells the channel alone
+  pub reads_channel : (k : Option A) → Keeps of (recall_of s c m) m k → (r : Result A ℕ) → r ≡ ok_or k c
+      → Answers (missing_at (held s) m c ∷ []) (λ a. recall_of s c m ≡ recalled (entry_of m (of a))) (channel_as m r)
+  reads_channel None gone r e = rw e (stop _ _ _ (ap not gone))
+  reads_channel (Some a) is r e = rw e (pass _ _ _ _ (ap not (ap is_present is)) (end _ _ is))

@@ -1,5 +1,5 @@
 -- Pressure and tendency: what the work of the readings of a minute comes to. Assumes nothing.
-use mathlib.Core.Path.{◌≡◌, refl, sym, ap, ap₂, ◌∙◌}
+use mathlib.Core.Path.{◌≡◌, refl, sym, ap, ap₂, subst, ◌∙◌}
 use mathlib.Core.Bool.{Bool, true, false, cond}
 use mathlib.Core.List.{List, [], ◌∷◌}
 use Prim.Native.Nat.{ℕ, ◌≤◌}
@@ -26,7 +26,7 @@ use Rattle.pressure.proofs.SizeLaws.{sea_level_stored}
 use Rattle.station.specs.Source.{Source, held, in_celsius, reading_at}
 use Rattle.station.specs.Questions.{Answers, outside_at, sea_level_at, station_at}
 use Rattle.station.specs.Told as told
-use Rattle.station.specs.Parts.{barometer_is, AreReadings, refused_at}
+use Rattle.station.specs.Parts.{barometer_is, AreReadings, WorksSeaLevel, WorkedAt, refused_at}
 use Rattle.station.specs.declared.QuestionRefusal.{QuestionRefusal}
 use Rattle.station.specs.declared.Readings.{Readings}
 use Rattle.station.proofs.AnswerLaws.{pass, stop, end}
@@ -66,6 +66,10 @@ pub pressure_told : (S : Source) (m : ℕ) (z : ℤ) (w : Result Hectopascals Pr
 pressure_told S m z (Ok p) g r is = rw is (pass _ _ _ _ g.0 (end _ _ g.1))
 pressure_told S m z (Err OutsideLimits) g r is = absurd g
 pressure_told S m z (Err OutsideCertificate) g r is = rw is (stop _ _ _ g)
+
+-- by how it was told
+pub worked_as : (S : Source) (m : ℕ) (r r' : Result Hectopascals QuestionRefusal) → WorkedAt S m r → r ≡ r' → WorksSeaLevel S m r'
+worked_as S m r r' w e = subst (WorksSeaLevel S m) e w.sea_level
 
 -- ---- the readings of a minute
 

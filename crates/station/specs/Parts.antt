@@ -23,13 +23,18 @@ use Rattle.station.specs.Source.{Source}
 use Rattle.station.specs.Questions.{Answers, too_late, missing_at, outside_at, station_at, PressureRule}
 use Rattle.station.specs.Told.{refusal_of, pressure_as}
 use Rattle.station.specs.declared.QuestionRefusal.{QuestionRefusal}
-use Rattle.station.specs.declared.QuestionRefusal.TheVariants.{OutsideLimits, OutsideCertificate, WetAboveDry, TooDry, TooWarmForIce, UnknownOutsideRange, AboveSaturation}
+use Rattle.station.specs.declared.QuestionRefusal.TheVariants.{OutsideLimits, MissingReading, OutsideCertificate, WetAboveDry, TooDry, TooWarmForIce, UnknownOutsideRange, AboveSaturation}
 use Rattle.station.specs.declared.Readings.{Readings}
 
 -- what a part gives, or why it refuses
 abbrev pub part_as : {A : Type 0} → Result A QuestionRefusal → Answer Numbered A
 part_as (Ok a) = given a
 part_as (Err r) = refused (refusal_of r)
+
+-- what a part gives, or the channel that has no reading at a minute
+abbrev pub channel_as : {A : Type 0} → ℕ → Result A ℕ → Answer Numbered A
+channel_as m (Ok a) = given a
+channel_as m (Err c) = refused (refusal_of (MissingReading c (record { 0 = m })))
 
 -- ---- the tests that every question begins with
 
@@ -69,11 +74,20 @@ pub record AreReadings (S : Source) (m : ℕ) (r : Readings) : Type 0 where
   pub barometer : S.recall 0 m ≡ recalled (entry_of m (barometer_is r.barometer))
   pub wheelhouse : S.recall 1 m ≡ recalled (entry_of m (wheelhouse_is r.wheelhouse))
 
-abbrev pub ReadsBoth : Source → ℕ → Result Readings QuestionRefusal → Type 0
-ReadsBoth S m r = Answers (missing_at S m 0 ∷ missing_at S m 1 ∷ []) (AreReadings S m) (part_as r)
+abbrev pub ReadsBoth : Source → ℕ → Result Readings ℕ → Type 0
+ReadsBoth S m r = Answers (missing_at S m 0 ∷ missing_at S m 1 ∷ []) (AreReadings S m) (channel_as m r)
 
 abbrev pub WorksSeaLevel : Source → ℕ → Result hectopascals.Hectopascals QuestionRefusal → Type 0
 WorksSeaLevel S m r = Answers (outside_at S m ∷ []) (PressureRule S m) (pressure_as r)
+
+-- what they come to, where both are there
+pub record WorkedAt (S : Source) (m : ℕ) (told : Result hectopascals.Hectopascals QuestionRefusal) : Type 0 where
+  pub readings : Readings
+  pub are : AreReadings S m readings
+  pub sea_level : WorksSeaLevel S m told
+
+abbrev pub SeaLevelAt : Source → ℕ → Result (Result hectopascals.Hectopascals QuestionRefusal) ℕ → Type 0
+SeaLevelAt S m r = Answers (missing_at S m 0 ∷ missing_at S m 1 ∷ []) (WorkedAt S m) (channel_as m r)
 
 abbrev pub WorksStation : Source → ℕ → Result hectopascals.Hectopascals QuestionRefusal → Type 0
 WorksStation S m r = Answers (outside_at S m ∷ []) (λ p. p ≡ station_at S m) (pressure_as r)

@@ -12,7 +12,7 @@ ghost use Rattle.station.specs.Source.{held};
 ghost use Rattle.station.specs.Questions.{TellsOf};
 ghost use Rattle.station.specs.Questions as asked;
 ghost use Rattle.station.specs.Told.{refusal_of, numbered_as};
-ghost use Rattle.station.specs.Parts.{Begins, Keeps, barometer_is, wheelhouse_is, felt_is, motion_is, dry_bulb_is, wet_bulb_is, AreReadings, ReadsBoth, WorksSeaLevel, WorksStation, refused_at, moist_as};
+ghost use Rattle.station.specs.Parts.{Begins, Keeps, barometer_is, wheelhouse_is, felt_is, motion_is, dry_bulb_is, wet_bulb_is, AreReadings, ReadsBoth, WorksSeaLevel, SeaLevelAt, WorksStation, refused_at, moist_as};
 
 use anemometer::Note;
 use block::{NO_STORE, Store};
@@ -157,7 +157,11 @@ fn begin(store: &Store, minute: u32) -> Result<(), QuestionRefusal>
 fn barometer_at(store: &Store, minute: u32) -> Option<BarometerReading>
     ensures { Keeps barometer_is (recall_of store.now 0 minute) minute result }
 {
-    match store::recall(store, 0, minute)? {
+    // (No `?`: what is answered where nothing is kept stands written out, since a wrong program changes it.)
+    let Some(kept) = store::recall(store, 0, minute) else {
+        return None;
+    };
+    match kept {
         Reading::Hectopascals(p) => Some(BarometerReading::Hectopascals(p)),
         Reading::Millimetres(p) => Some(BarometerReading::Millimetres(p)),
         _ => None,
@@ -216,18 +220,12 @@ fn wet_bulb_at(store: &Store, minute: u32) -> Option<(BulbState, BulbTemperature
 
 // ---- pressure and tendency
 
-// Both readings that sea level pressure is worked from.
-fn readings_at(store: &Store, minute: u32) -> Result<Readings, QuestionRefusal>
+// Both readings that sea level pressure is worked from; or the channel that has none.
+fn readings_at(store: &Store, minute: u32) -> Result<Readings, u32>
     ensures { ReadsBoth (held store.now) minute result }
 {
-    let barometer = barometer_at(store, minute).ok_or(QuestionRefusal::MissingReading(
-        0,
-        Minute(minute),
-    ))?;
-    let wheelhouse = wheelhouse_at(store, minute).ok_or(QuestionRefusal::MissingReading(
-        1,
-        Minute(minute),
-    ))?;
+    let barometer = barometer_at(store, minute).ok_or(0u32)?;
+    let wheelhouse = wheelhouse_at(store, minute).ok_or(1u32)?;
     Ok(Readings {
         barometer,
         wheelhouse,
@@ -259,13 +257,24 @@ fn sea_level(
     }
 }
 
+// Sea level pressure at a minute, or why there is none although both readings are there; or the channel that has no reading. So a
+// tendency can tell first of all that is missing. (One function for three calls: with its parts apart a pressure cost a sixth more.)
+fn sea_level_at(store: &Store, minute: u32) -> Result<Result<Hectopascals, QuestionRefusal>, u32>
+    ensures { SeaLevelAt (held store.now) minute result }
+{
+    let readings = readings_at(store, minute)?;
+    Ok(sea_level(store, minute, readings))
+}
+
 // The pressure at sea level.
 pub fn pressure(store: &Store, minute: u32) -> Result<Hectopascals, QuestionRefusal>
     ensures { TellsOf asked.pressure store.now minute result × (store.exit.now ≡ store.entry.now) }
 {
     begin(store, minute)?;
-    let readings = readings_at(store, minute)?;
-    sea_level(store, minute, readings)
+    match sea_level_at(store, minute) {
+        Ok(worked) => worked,
+        Err(c) => Err(QuestionRefusal::MissingReading(c, Minute(minute))),
+    }
 }
 
 // Its change since three hours before, and how many barometer minutes between are absent.
@@ -277,10 +286,16 @@ pub fn tendency(store: &Store, minute: u32) -> Result<PressureTendency, Question
         return Err(QuestionRefusal::NoThreeHours);
     }
     let before = minute - Minute::THREE_HOURS;
-    let earlier = readings_at(store, before)?;
-    let later = readings_at(store, minute)?;
-    let was = sea_level(store, before, earlier)?;
-    let is = sea_level(store, minute, later)?;
+    let earlier = match sea_level_at(store, before) {
+        Ok(worked) => worked,
+        Err(c) => return Err(QuestionRefusal::MissingReading(c, Minute(before))),
+    };
+    let later = match sea_level_at(store, minute) {
+        Ok(worked) => worked,
+        Err(c) => return Err(QuestionRefusal::MissingReading(c, Minute(minute))),
+    };
+    let was = earlier?;
+    let is = later?;
     Ok(PressureTendency {
         change: Hectopascals(is.0.minus(was.0)),
         absent: store::missing_minutes(store, 0, minute),
@@ -289,7 +304,9 @@ pub fn tendency(store: &Store, minute: u32) -> Result<PressureTendency, Question
 
 // ---- wind
 
-// The true wind.
+// The true wind. (The attribute is for a wrong program, which tells a calm of a block that is no store: the same shape with the right
+// answer is proved by it.)
+#[tactic(auto, using(crate::proofs::AnswerLaws::no_store_told))]
 pub fn wind(store: &Store, minute: u32) -> Result<Wind, QuestionRefusal>
     ensures { TellsOf asked.wind store.now minute result × (store.exit.now ≡ store.entry.now) }
 {

@@ -52,19 +52,24 @@ fn ones_in(w: u64, o: u64, n: u64) -> u64
 
 // (What follows takes slices and asks for their length: std makes an array's reference of a `&mut` slice, but promises nothing of what is
 // written through it.)
-// How many of the n minutes from `from` on have their bit set: word by word, each masked to those minutes.
+// How many of the n minutes from `from` on have their bit set: the words that end among them, and then the part of one that is left,
+// each masked to those minutes.
 fn heard_among(window: &[u64], from: u64, n: u64) -> u64
-    requires { (length window.now ≡ WINDOW) × (0 < n) × (from + n + 64 < 2 ^ 64) }
+    requires { (length window.now ≡ WINDOW) × (from + n + 64 < 2 ^ 64) }
     ensures { (result ≡ total (bit_of window.now) from n) × (result ≤ n) }
 {
     let to = from + n;
+    let mut at = from;
     let mut sum: u64 = 0;
-    for k in from / 64..to.div_ceil(64) {
-        let at = from.max(k * 64);
-        let end = to.min(k * 64 + 64);
-        sum += ones_in(window[word_of(at)], at % 64, end - at);
+    for k in from / 64..to / 64 {
+        let o = at % 64;
+        sum += ones_in(window[word_of(k * 64)], o, 64 - o);
+        at = k * 64 + 64;
     }
-    sum
+    if at == to {
+        return sum;
+    }
+    sum + ones_in(window[word_of(at)], at % 64, to - at)
 }
 
 // Marks a minute as heard, and those from `from` up to it, which share its word, as absent.

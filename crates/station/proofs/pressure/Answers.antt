@@ -9,13 +9,13 @@ returns-in_err-begin c =
     let p = err_from_is_err_and c.from_residual.result c.from_residual.ensures.1 in
     rw (p.1, p.2) (λ tables tabled. refuses _ _ _ _ _ c.in_err-begin.ensures, refl)
 
-pub returns-in_err-readings : goal.returns-in_err-readings
-returns-in_err-readings c =
-    let p = err_from_is_err_and c.from_residual-in_err-readings.result c.from_residual-in_err-readings.ensures.1 in
-    rw (p.1, p.2) (λ tables tabled. goes_on _ _ _ _ _ _ c.in_ok-begin.ensures (refuses _ _ _ _ _ c.in_err-readings.ensures), refl)
+pub returns-in-Err : goal.returns-in-Err
+returns-in-Err c = (λ tables tabled. goes_on _ _ _ _ _ _ c.in_ok-begin.ensures (refuses _ _ _ _ _ c.in-Err.ensures), refl)
 
-pub sea_level-requires : goal.sea_level-requires
-sea_level-requires c = by_rule _ _ _ c.in_ok-readings.ensures
-
-pub returns : goal.returns
-returns c = (λ tables tabled. goes_on _ _ _ _ _ _ c.in_ok-begin.ensures (goes_on _ _ _ _ _ _ c.in_ok-readings.ensures c.sea_level.ensures), refl)
+pub returns-in-Ok : goal.returns-in-Ok
+returns-in-Ok c = (
+  λ tables tabled.
+      let worked = by_rule _ _ _ c.in-Ok.ensures in
+      goes_on _ _ _ _ _ _ c.in_ok-begin.ensures (goes_on _ _ _ _ _ _ c.in-Ok.ensures worked.sea_level),
+  refl,
+)
