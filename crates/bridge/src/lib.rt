@@ -6,7 +6,6 @@
 #![tactic(auto)]
 
 ghost use Rattle.std.specs.Prelude.{◌≡◌, ℕ, ℤ};
-ghost use Rattle.text.specs.Text.{Puts};
 ghost use Rattle.spoken.specs.Refusals.{refusal_text};
 ghost use Rattle.desk.specs.Counting.{messages, HearsAll};
 ghost use Rattle.watchfile.specs.Format.{DewRule};
@@ -99,21 +98,8 @@ pub fn zhitomrak_take_out(buffer: &mut [u8], size: usize, kind: u32, minute: u32
 
 // ---- what people read: a sentence in the lent bytes, with zeros behind it; its length
 
-// Puts why a question is refused.
-#[tactic(auto, unfolding(crate::specs::Sentences::refused_text))]
-fn put_refused(page: &mut Page<'_>, refusal: Refusal)
-    ensures { Puts page.old page.new (refused_text refusal) }
-{
-    let number = refusal.number;
-    let minute = refusal.minute as u64;
-    if number == 11 {
-        spoken::put_refusal(page, number, refusal.channel as u64, minute);
-    } else {
-        spoken::put_refusal(page, number, minute, 0);
-    }
-}
-
-// A refusal, by its number and what it also returns, in their order.
+// A refusal, by its number and what it also returns, in their order. (Every refusal is said here, on a page that is made here: one that came
+// from elsewhere would be looked up in memory for each byte.)
 pub fn zhitomrak_say_refusal(
     number: u32,
     first: u64,
@@ -128,16 +114,29 @@ pub fn zhitomrak_say_refusal(
     page.at
 }
 
+// Says why a question is refused.
+#[tactic(auto, unfolding(crate::specs::Sentences::refused_text))]
+fn say_refused(refusal: Refusal, text: &mut [u8; SENTENCE]) -> usize
+    ensures { Says (refused_text refusal) text.new result }
+{
+    let number = refusal.number;
+    let minute = refusal.minute as u64;
+    if number == 11 {
+        zhitomrak_say_refusal(number, refusal.channel as u64, minute, text)
+    } else {
+        zhitomrak_say_refusal(number, minute, 0, text)
+    }
+}
+
 // A pressure, or why there is none.
 pub fn zhitomrak_say_pressure(told: PressureTold, text: &mut [u8; SENTENCE]) -> usize
     ensures { Says (pressure_said told) text.new result }
 {
+    if told.refusal.number != 0 {
+        return say_refused(told.refusal, text);
+    }
     *text = [0u8; SENTENCE];
     let mut page = Page::new(text);
-    if told.refusal.number != 0 {
-        put_refused(&mut page, told.refusal);
-        return page.at;
-    }
     spoken::put_pressure(&mut page, told.pressure);
     page.at
 }
@@ -146,12 +145,11 @@ pub fn zhitomrak_say_pressure(told: PressureTold, text: &mut [u8; SENTENCE]) -> 
 pub fn zhitomrak_say_tendency(told: TendencyTold, text: &mut [u8; SENTENCE]) -> usize
     ensures { Says (tendency_said told) text.new result }
 {
+    if told.refusal.number != 0 {
+        return say_refused(told.refusal, text);
+    }
     *text = [0u8; SENTENCE];
     let mut page = Page::new(text);
-    if told.refusal.number != 0 {
-        put_refused(&mut page, told.refusal);
-        return page.at;
-    }
     spoken::put_tendency(&mut page, told.change, told.absent);
     page.at
 }
@@ -160,12 +158,11 @@ pub fn zhitomrak_say_tendency(told: TendencyTold, text: &mut [u8; SENTENCE]) -> 
 pub fn zhitomrak_say_wind(told: WindTold, text: &mut [u8; SENTENCE]) -> usize
     ensures { Says (wind_said told) text.new result }
 {
+    if told.refusal.number != 0 {
+        return say_refused(told.refusal, text);
+    }
     *text = [0u8; SENTENCE];
     let mut page = Page::new(text);
-    if told.refusal.number != 0 {
-        put_refused(&mut page, told.refusal);
-        return page.at;
-    }
     spoken::put_wind(&mut page, told.speed, told.direction);
     page.at
 }
@@ -174,12 +171,11 @@ pub fn zhitomrak_say_wind(told: WindTold, text: &mut [u8; SENTENCE]) -> usize
 pub fn zhitomrak_say_humidity(told: HumidityTold, text: &mut [u8; SENTENCE]) -> usize
     ensures { Says (humidity_said told) text.new result }
 {
+    if told.refusal.number != 0 {
+        return say_refused(told.refusal, text);
+    }
     *text = [0u8; SENTENCE];
     let mut page = Page::new(text);
-    if told.refusal.number != 0 {
-        put_refused(&mut page, told.refusal);
-        return page.at;
-    }
     spoken::put_humidity(
         &mut page,
         told.e,
@@ -195,12 +191,11 @@ pub fn zhitomrak_say_humidity(told: HumidityTold, text: &mut [u8; SENTENCE]) -> 
 pub fn zhitomrak_say_reading(told: ReadingTold, text: &mut [u8; SENTENCE]) -> usize
     ensures { Says (reading_said told) text.new result }
 {
+    if told.refusal.number != 0 {
+        return say_refused(told.refusal, text);
+    }
     *text = [0u8; SENTENCE];
     let mut page = Page::new(text);
-    if told.refusal.number != 0 {
-        put_refused(&mut page, told.refusal);
-        return page.at;
-    }
     spoken::put_reading(&mut page, told.channel, told.unit, told.first, told.second);
     page.at
 }

@@ -37,30 +37,31 @@ pub broken_text : (a : Answer ℕ (List Record)) (place : ℕ) → counted a ≡
 unfolding listing_of
 broken_text a place v = rw (broken_is a place v)
 
--- ---- the text in a lent buffer: it was put whole on a page of its own, from which its n bytes are copied into the buffer
+-- ---- the text in a lent buffer: it was put whole into room of its own, from which its n bytes are put into the buffer
 
-module _ {page after : Page} {lent : MutBor (List ℕ)} {text : List ℕ} (new : IsPage page lent) (p : Puts page after text) where
-  here : Put lent.now after.text.now 0 text after.at
-  here = rw (new.text, new.start) at p.put
+-- a text put on a new page stands at the start of the lent bytes
+pub put_from : {page after : Page} {lent : MutBor (List ℕ)} {text : List ℕ} → IsPage page lent → Puts page after text → Put lent.now after.text.now 0 text after.at
+put_from new p = rw (new.text, new.start) at p.put
 
-  pub lists_none : {before : List ℕ} → length text ≤ length lent.now → length before < after.at → Lists text before before (Err (record { 0 = after.at }))
+module _ {room whole text before : List ℕ} {n : ℕ} (fits : length text ≤ length room) (p : Put room whole 0 text n) where
+  pub lists_none : length before < n → Lists text before before (Err (record { 0 = n }))
   unfolding answer listing
-  lists_none {before} fits h =
-      let size = (put_front here fits).1 in
+  lists_none h =
+      let size = (put_front p fits).1 in
       let small : length before < length text = omega arith in
       record { answer = rw (lt-ltb (length before) (length text) small, size); bytes = rw (lt-ltb (length before) (length text) small) }
 
-  pub lists_all : {before copied : List ℕ} → length text ≤ length lent.now → after.at ≤ length before → copied ≡ take after.at after.text.now → Lists text before (copied ++ drop after.at before) (Ok after.at)
+  pub lists_all : {put : List ℕ} {k : ℕ} (left : List ℕ) → left ≡ put → n ≤ length before → Put before put 0 (take n whole) k → Lists text before left (Ok n)
   unfolding answer listing
-  lists_all {before} {copied} fits h e =
-      let size = (put_front here fits).1 in
-      let front : take after.at after.text.now ≡ text = ap (take after.at) (put_front here fits).0 ∙ take_at text (drop (length text) lent.now) after.at (sym size) in
+  lists_all left same h q =
+      let size = (put_front p fits).1 in
+      let front : take n whole ≡ text = ap (take n) (put_front p fits).0 ∙ take_at text (drop (length text) room) n (sym size) in
       let enough : length text ≤ length before = omega arith in
-      record { answer = rw (le-ltb (length before) (length text) enough, size); bytes = rw (le-ltb (length before) (length text) enough, e, front, size) }
+      record { answer = rw (le-ltb (length before) (length text) enough, size); bytes = rw (le-ltb (length before) (length text) enough) (same ∙ (put_front (rw front at q) enough).0) }
 
-  -- or it was put straight into the buffer, where that has room for it
-  pub lists_straight : (left : List ℕ) → left ≡ after.text.now → length text ≤ length lent.now → Lists text lent.now left (Ok after.at)
-  unfolding answer listing
-  lists_straight left same enough =
-      let f = put_front here enough in
-      record { answer = rw (le-ltb (length lent.now) (length text) enough) (ap given f.1); bytes = rw (le-ltb (length lent.now) (length text) enough) (same ∙ f.0) }
+-- or straight into the buffer, where that has room for it
+pub lists_straight : {text before after : List ℕ} {k : ℕ} → length text ≤ length before → Put before after 0 text k → Lists text before after (Ok k)
+unfolding answer listing
+lists_straight {text} {before} enough q =
+    let f = put_front q enough in
+    record { answer = rw (le-ltb (length before) (length text) enough) (ap given f.1); bytes = rw (le-ltb (length before) (length text) enough) f.0 }

@@ -2,7 +2,7 @@
 #![tactic(auto)]
 
 ghost use Rattle.std.specs.Prelude.{◌≡◌, [], ◌∷◌, ◌++◌, ℕ, ◌≤◌, ℤ, length};
-ghost use Rattle.text.specs.Text.{field, field_of, end, Puts};
+ghost use Rattle.text.specs.Text.{field, field_of, end, Put, Puts};
 ghost use Rattle.listing.specs.Listing.{head_line, listing_of, Lists};
 ghost use Rattle.listing.specs.Lines.{letter_of, humidity_text, figures_text, figures_line, lines_from};
 ghost use Rattle.watchfile.specs.Format.{DewRule, reading};
@@ -62,13 +62,6 @@ fn put_body(page: &mut Page<'_>, r: Figures)
     }
 }
 
-// Ends a line.
-fn put_end(page: &mut Page<'_>)
-    ensures { Puts page.old page.new end }
-{
-    page.byte(b'\n');
-}
-
 // Puts the line of a record; nothing where there is none.
 fn put_record(page: &mut Page<'_>, r: Figures)
     ensures { Puts page.old page.new (figures_line r) }
@@ -79,7 +72,7 @@ fn put_record(page: &mut Page<'_>, r: Figures)
     page.byte(letter(r.kind));
     page.field(r.minute as u64);
     put_body(page, r);
-    put_end(page);
+    page.byte(b'\n');
 }
 
 // Puts the lines of the first `count` records of a file.
@@ -98,7 +91,7 @@ fn put_line(page: &mut Page<'_>, words: &[u8], n: usize)
 {
     page.bytes(words);
     page.field(n as u64);
-    put_end(page);
+    page.bytes(b"\n");
 }
 
 // Puts the listing of a good file.
@@ -119,20 +112,27 @@ fn put_file(page: &mut Page<'_>, file: &[u8])
     }
 }
 
+// The same at the start of lent bytes. The place behind it. (The page is made here, for both callers: a page that came from elsewhere is
+// looked up in memory for each byte.)
+fn put_whole(text: &mut [u8], file: &[u8]) -> usize
+    ensures { (rule : ℕ → ℤ) → DewRule rule → Put text.old text.new 0 (listing_of (reading rule file.now)) result }
+{
+    let mut page = Page::new(text);
+    put_file(&mut page, file);
+    page.at
+}
+
 // The same into room that may be too short for it: it is put elsewhere first.
 fn list_short(file: &[u8], text: &mut [u8]) -> Result<usize, TooShort>
     ensures { (rule : ℕ → ℤ) → DewRule rule → Lists (listing_of (reading rule file.now)) text.old text.new result }
 {
     let mut whole = [0u8; TEXT];
-    let mut page = Page::new(&mut whole);
-    put_file(&mut page, file);
-    let n = page.at;
+    let n = put_whole(&mut whole, file);
     let short = text.len() < n;
     if short {
         return Err(TooShort(n));
     }
-    let listed = &page.text[..n];
-    text[..n].copy_from_slice(listed);
+    Page::new(text).bytes(&whole[..n]);
     Ok(n)
 }
 
@@ -143,7 +143,5 @@ pub fn list(file: &[u8], text: &mut [u8]) -> Result<usize, TooShort>
     if text.len() < TEXT {
         return list_short(file, text);
     }
-    let mut page = Page::new(text);
-    put_file(&mut page, file);
-    Ok(page.at)
+    Ok(put_whole(text, file))
 }

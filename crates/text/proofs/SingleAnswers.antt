@@ -6,7 +6,7 @@ use Prim.Native.Nat.{ℕ}
 use Rattle.number.specs.Single.{Single, SingleLeft}
 use Rattle.std.specs.Borrow.{MutBor}
 use Rattle.text.specs.declared.Page.{Page}
-use Rattle.text.specs.Text.{IsPage, Puts}
+use Rattle.text.specs.Text.{Puts}
 use Rattle.text.proofs.Page.new.Reads as page
 use Rattle.text.proofs.Page.byte.Reads as byte
 use Rattle.text.proofs.Page.bytes.Reads as bytes

@@ -51,7 +51,11 @@ impl<'a> Page<'a> {
         }
         let fitting = bytes.len().min(self.text.len() - self.at);
         let end = self.at + fitting;
-        self.text[self.at..end].copy_from_slice(&bytes[..fitting]);
+        let part = &mut self.text[self.at..end];
+        // (A `for`, and no `copy_from_slice`: a wrong program begins with the second byte, which is a change of one number here.)
+        for i in 0..fitting {
+            part[i] = bytes[i];
+        }
         self.at = end;
     }
 

@@ -3,4 +3,4 @@ use Rattle.text.proofs.PutLaws.{then}
 use Rattle.listing.proofs.put_line.Goals as goal
 
 pub returns : goal.returns
-returns c = then c.bytes.ensures (then c.field.ensures c.put_end.ensures)
+returns c = then c.bytes.ensures (then c.field.ensures c.bytes-2.ensures)

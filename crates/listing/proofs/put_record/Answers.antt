@@ -12,4 +12,4 @@ pub returns : goal.returns
 unfolding figures_line
 returns c =
     rw (ne_eqb _ 0 c.if-r-eq0.false, ← c.letter.ensures)
-    (then c.byte.ensures (then c.field.ensures (then c.put_body.ensures c.put_end.ensures)))
+    (then c.byte.ensures (then c.field.ensures (then c.put_body.ensures c.byte-2.ensures)))

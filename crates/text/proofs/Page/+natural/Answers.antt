@@ -1,5 +1,4 @@
 -- `Page::natural` meets its contract: the digits of the tenth part, then the last. Assumes nothing.
-use native.Mathlib.Omega.{arith}
 use borrow.Author.Rules.{rules}
 use Rattle.text.proofs.DecimalLaws.{put_one_digit, put_last_digit}
 use Rattle.text.proofs.Page.+natural.Goals as goal
