@@ -2,16 +2,14 @@
 -- time by how the ranks compare. Assumes nothing.
 use mathlib.Core.Path.{◌≡◌, refl, sym, ap, ◌∙◌}
 use mathlib.Core.Bool.{Bool, true, false}
-use mathlib.Core.List.{List, [], ◌∷◌, ◌++◌, append-nil}
-use Prim.Native.Nat.{ℕ, zero, suc, ◌+◌, ◌≤◌, ◌<◌}
+use mathlib.Core.List.{List, [], ◌∷◌}
+use Prim.Native.Nat.{ℕ, zero, suc, ◌≤◌, ◌<◌}
 use native.Mathlib.Omega.{arith}
 use native.Mathlib.Nat.{le_of_suc-le-suc, not-suc-le-zero}
 use lib.Dec.{leb, eqb}
-use lib.ListN.{length, take, drop, set, drop_of_length-le, length-drop}
-use lib.Seq.{drop-cons, take_all}
-use borrow.Rule.Slice.PartMut.{put_mid}
+use lib.ListN.{length, take, set}
 use borrow.Author.Tests.{le-leb, lt-leb, le-ltb, lt-ltb, leb-true, leb-false, eq-eqb, ne_eqb, eqb-true, eqb-false}
-use Rattle.watchfile.specs.Format.{blank, rank_of}
+use Rattle.watchfile.specs.Format.{rank_of}
 use Rattle.watchfile.specs.declared.Record.{Record}
 use Rattle.writer.proofs.RestLaws.{at}
 use Rattle.watchlog.specs.Placing.{inserted, place_of, pushed}
@@ -87,27 +85,13 @@ insert_push r (q ∷ qs) none =
     (λ h. absurd (let p = place_here (rank_of r) q qs (omega arith) in none (rw p (omega arith)) (rw p h)))
     (λ h. insert_before r q qs h ∙ ap (λ (i : ℕ). pushed i r (q ∷ qs)) (sym (place_here (rank_of r) q qs (omega arith))))
 
--- ---- the records from a place on turned by one, and the place taken
+-- ---- pushing on, one place after the other
 
--- what stands in the array once the last k places come back
-pub over_rest : (l new : List Record) (i k : ℕ) → length l ≡ k + i → put_mid i k l new ≡ take i l ++ new
-over_rest l new i k e =
-    ap (λ (x : List Record). take i l ++ (new ++ x)) (drop_of_length-le (drop i l) {i = k} (omega (arith, length-drop i l)))
-    ∙ ap (λ (x : List Record). take i l ++ x) (append-nil new)
-
--- and the last k places, lent
-pub rest_lent : (l : List Record) (i k : ℕ) → length l ≡ k + i → take k (drop i l) ≡ drop i l
-rest_lent l i k e = take_all k (drop i l) (omega (arith, length-drop i l))
-
-pub push_turned : (i n : ℕ) (r : Record) (l : List Record) → i + suc n ≡ length l
-    → set (take i l ++ (drop n (drop i l) ++ take n (drop i l))) i r ≡ take (length l) (pushed i r l)
+pub push_on : (i : ℕ) (r : Record) (l : List Record) → i < length l → pushed (suc i) (at l i) (set l i r) ≡ pushed i r l
 unfolding pushed
-push_turned i n r [] e = absurd (omega arith)
-push_turned zero n r (q ∷ l) e =
-    let k : n ≡ length l = omega arith in
-    let last : drop n (q ∷ l) ≡ at (q ∷ l) n ∷ [] = drop-cons (q ∷ l) n blank (omega arith) ∙ ap (◌∷◌ (at (q ∷ l) n)) (drop_of_length-le (q ∷ l) {i = suc n} (omega arith)) in
-    rw last (ap (λ (m : ℕ). r ∷ take m (q ∷ l)) k)
-push_turned (suc i) n r (q ∷ l) e = ap (◌∷◌ q) (push_turned i n r l (omega arith))
+push_on i r [] h = absurd (not-suc-le-zero h)
+push_on zero r (q ∷ l) h = refl
+push_on (suc i) r (q ∷ l) h = ap (◌∷◌ q) (push_on i r l (le_of_suc-le-suc h))
 
 -- what is pushed at the end or behind it falls off
 pub push_off : (i : ℕ) (r : Record) (l : List Record) → length l ≤ i → take (length l) (pushed i r l) ≡ l

@@ -2,14 +2,14 @@
 -- ranks compare. Assumes nothing.
 use mathlib.Core.Path.{◌≡◌, refl, sym, ap, ◌∙◌}
 use mathlib.Core.Bool.{true, false, and-false}
-use mathlib.Core.List.{List, [], ◌∷◌, ◌++◌}
+use mathlib.Core.List.{List, [], ◌∷◌}
 use Prim.Native.Nat.{ℕ, zero, suc, ◌-◌, ◌≤◌, ◌<◌}
 use native.Mathlib.Omega.{arith}
 use native.Mathlib.Decide.{dec_lt}
 use native.Mathlib.Nat.{le_of_suc-le-suc, not-suc-le-zero}
 use lib.IntN.{ℤ}
-use lib.ListN.{length, take, drop, length-take}
-use lib.Seq.{get_or-take, take_all, take-take, take-append-le}
+use lib.ListN.{length, take, set, length-take}
+use lib.Seq.{get_or-take, take_all, take-take}
 use lib.Dec.{leb}
 use borrow.Author.Tests.{lt-leb, le-ltb, lt-ltb, eq-eqb, ne_eqb}
 use Rattle.number.specs.Refusal.{refused, given, numbered}
@@ -21,13 +21,14 @@ use Rattle.watchlog.specs.Placing.{NO_RECORD, stands, without, taken_in, place_o
 use Rattle.watchlog.proofs.InsertLaws.{place_here, place_later}
 use Rattle.watchlog.proofs.LaidLaws.{same_front}
 
--- ---- the records from a place on turned by one
+-- ---- pulling on, one place after the other
 
-pull_turned : (i : ℕ) (l : List Record) → i < length l → take i l ++ (drop 1 (drop i l) ++ take 1 (drop i l)) ≡ pulled i l ++ take 1 (drop i l)
+pub pull_on : (i : ℕ) (l : List Record) → suc i < length l → pulled (suc i) (set l i (at l (suc i))) ≡ pulled i l
 unfolding pulled
-pull_turned i [] h = absurd (not-suc-le-zero h)
-pull_turned zero (q ∷ l) h = refl
-pull_turned (suc i) (q ∷ l) h = ap (◌∷◌ q) (pull_turned i l (le_of_suc-le-suc h))
+pull_on i [] h = absurd (not-suc-le-zero h)
+pull_on zero (q ∷ []) h = absurd (not-suc-le-zero (le_of_suc-le-suc h))
+pull_on zero (q ∷ p ∷ l) h = refl
+pull_on (suc i) (q ∷ l) h = ap (◌∷◌ q) (pull_on i l (le_of_suc-le-suc h))
 
 -- those before the place stay
 pub pull_front : (n i : ℕ) (l : List Record) → n ≤ i → take n (pulled i l) ≡ take n l
@@ -51,11 +52,6 @@ unfolding pulled
 pull_length i [] h = absurd (not-suc-le-zero h)
 pull_length zero (q ∷ l) h = refl
 pull_length (suc i) (q ∷ l) h = ap suc (pull_length i l (le_of_suc-le-suc h))
-
--- what stands behind the others then is not among them
-pub pull_left : (n i : ℕ) (l : List Record) → length l ≡ suc n → i < length l → take n (take i l ++ (drop 1 (drop i l) ++ take 1 (drop i l))) ≡ take n (pulled i l)
-pull_left n i l e h =
-    ap (take n) (pull_turned i l h) ∙ take-append-le n (pulled i l) (take 1 (drop i l)) (omega (arith, pull_length i l h))
 
 -- ---- three cases of the first record
 

@@ -14,8 +14,7 @@ use Rattle.octets.specs.Lent.{short}
 use Rattle.watchfile.specs.Format.{blank, record_right, record_tests, past, rank_of, file_of, reading, writing}
 use Rattle.watchfile.specs.declared.Record.{Record}
 use Rattle.reader.specs.Read.{verdict_as, counted}
-use Rattle.std.specs.Prelude.{Result, Ok, Err, IsErrAnd}
-use Rattle.std.proofs.lemmas.Result.{err_from_is_err_and}
+use Rattle.std.specs.Prelude.{Result, Ok, Err}
 use Rattle.reader.specs.declared.Broken as reader
 use Rattle.reader.proofs.VerdictLaws.{broken_is, good_is}
 use Rattle.writer.specs.Write.{written_as, Wrote}
@@ -25,7 +24,6 @@ use Rattle.writer.proofs.ReadWrittenLaws.{read_right}
 use Rattle.watchlog.specs.Places.{ReadIn}
 use Rattle.watchlog.specs.Placing.{inserted, placed_as, writing_all, Leaves, place_of, pushed}
 use Rattle.watchlog.specs.declared.PlaceRefusal.{PlaceRefusal}
-use Rattle.watchlog.specs.declared.PlaceRefusal.TheVariants.{Write}
 use Rattle.watchlog.proofs.LaidLaws.{same_front, file_records}
 use Rattle.watchlog.proofs.InsertLaws.{place_most, insert_set, insert_push, push_front, push_length}
 
@@ -119,14 +117,6 @@ pub leaves : (rule : ℕ → ℤ) (all : List Record) (count : ℕ) (before afte
     → Wrote rule all count before after w → placed_as p ≡ written_as w → writing rule all count (length before) ≡ file → Leaves file before after p
 leaves rule all count before after w p file wrote e same =
     subst (λ (f : Answer Numbered (List ℕ)). Leaves f before after p) same (record { answer = e ∙ wrote.answer; bytes = wrote.bytes })
-
--- a write's own answer, handed on: as it is, or its refusal among the logbook's
-pub done_on : (w : Result ℕ WriteRefusal) (n : ℕ) → w ≡ Ok n → placed_as (Ok n) ≡ written_as w
-done_on w n e = sym (ap written_as e)
-
-pub refused_on : (w : Result ℕ WriteRefusal) (r : WriteRefusal) (p : Result ℕ PlaceRefusal) → w ≡ Err r → IsErrAnd p (λ x. x ≡ Write r) → placed_as p ≡ written_as w
-refused_on w r p e h =
-    let q = err_from_is_err_and p h in ap placed_as (q.1 ∙ ap Err q.2) ∙ sym (ap written_as e)
 
 -- ---- the file that was read
 

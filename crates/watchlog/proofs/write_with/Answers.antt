@@ -6,7 +6,7 @@ use native.Mathlib.Omega.{arith}
 use lib.ListN.{length}
 use Rattle.watchfile.specs.Format.{writing}
 use Rattle.watchfile.specs.declared.Record.{Record}
-use Rattle.watchlog.proofs.PlaceLaws.{leaves, done_on, refused_on, set_written, push_written}
+use Rattle.watchlog.proofs.PlaceLaws.{leaves, set_written, push_written}
 use Rattle.watchlog.proofs.write_with.Goals as goal
 use Rattle.watchlog.proofs.write_with.Goals.{else-at-count-via-then-at-count+else-rank_of-rank, else-at-count-via-else-at-count}
 
@@ -15,37 +15,16 @@ returns-then-rank_of-rank c =
     λ rule ruled.
     let q = c.args in
     let n : length q.records ≡ 48 = c.well_formed.1.0.1.0.1 in
-    leaves rule _ q.count q.file.now c.write.new.file c.write.result _ _ (c.write.ensures rule ruled) (done_on c.write.result c.in_ok-write.field-0 c.in_ok-write.was)
+    leaves rule _ q.count q.file.now c.write.new.file c.write.result _ _ (c.write.ensures rule ruled) c.written.ensures
     (set_written rule q.records n q.count c.requires q.r (length q.file.now) c.rank_of-rank.result c.place_of-at.result c.rank_of-rank.ensures c.place_of-at.ensures
     c.if-at-count.true (sym c.rank_of.ensures ∙ c.if-rank_of-rank.true))
-
-pub returns-in_err-write : goal.returns-in_err-write
-returns-in_err-write c =
-    λ rule ruled.
-    let q = c.args in
-    let n : length q.records ≡ 48 = c.well_formed.1.0.1.0.1 in
-    leaves rule _ q.count q.file.now c.write.new.file c.write.result _ _ (c.write.ensures rule ruled)
-    (refused_on c.write.result c.in_err-write.field-0.0 c.from_residual.result c.in_err-write.was c.from_residual.ensures.1)
-    (set_written rule q.records n q.count c.requires q.r (length q.file.now) c.rank_of-rank.result c.place_of-at.result c.rank_of-rank.ensures c.place_of-at.ensures
-    c.if-at-count.true (sym c.rank_of.ensures ∙ c.if-rank_of-rank.true))
-
-pub returns-in_err-write-2 : goal.returns-in_err-write-2
-returns-in_err-write-2 c =
-    λ rule ruled.
-    let q = c.args in
-    let n : length q.records ≡ 48 = c.well_formed.1.0.1.0.1 in
-    leaves rule _ (q.count + 1) q.file.now c.write-2.new.file c.write-2.result _ _ (c.write-2.ensures rule ruled)
-    (refused_on c.write-2.result c.in_err-write-2.field-0.0 c.from_residual-in_err-write-2.result c.in_err-write-2.was c.from_residual-in_err-write-2.ensures.1)
-    (ap (λ (l : List Record). writing rule l (q.count + 1) (length q.file.now)) c.pushed.ensures
-    ∙ push_written rule q.records n q.count c.requires q.r (length q.file.now) c.rank_of-rank.result c.place_of-at.result c.rank_of-rank.ensures c.place_of-at.ensures
-    (λ l e. elim c.else-at-count.branch [ else-at-count-via-then-at-count+else-rank_of-rank w ↦ w.if-rank_of-rank.false (w.rank_of.ensures ∙ e) | else-at-count-via-else-at-count w ↦ omega arith ]))
 
 pub returns : goal.returns
 returns c =
     λ rule ruled.
     let q = c.args in
     let n : length q.records ≡ 48 = c.well_formed.1.0.1.0.1 in
-    leaves rule _ (q.count + 1) q.file.now c.write-2.new.file c.write-2.result _ _ (c.write-2.ensures rule ruled) (done_on c.write-2.result c.in_ok-write-2.field-0 c.in_ok-write-2.was)
+    leaves rule _ (q.count + 1) q.file.now c.write-2.new.file c.write-2.result _ _ (c.write-2.ensures rule ruled) c.written-2.ensures
     (ap (λ (l : List Record). writing rule l (q.count + 1) (length q.file.now)) c.pushed.ensures
     ∙ push_written rule q.records n q.count c.requires q.r (length q.file.now) c.rank_of-rank.result c.place_of-at.result c.rank_of-rank.ensures c.place_of-at.ensures
     (λ l e. elim c.else-at-count.branch [ else-at-count-via-then-at-count+else-rank_of-rank w ↦ w.if-rank_of-rank.false (w.rank_of.ensures ∙ e) | else-at-count-via-else-at-count w ↦ omega arith ]))

@@ -13,7 +13,7 @@ use lib.IntN.{ℤ}
 use Rattle.watchlog.specs.Placing.{NO_RECORD, Leaves, taken_in, place_of}
 use Rattle.std.specs.Prelude.{Err}
 use Rattle.watchlog.specs.declared.PlaceRefusal.TheVariants.{NoRecord}
-use Rattle.watchlog.proofs.PlaceLaws.{leaves, done_on, refused_on}
+use Rattle.watchlog.proofs.PlaceLaws.{leaves}
 use Rattle.watchlog.proofs.OutLaws.{no_kind, out_written, none_written}
 use Rattle.watchlog.proofs.write_without.Goals as goal
 use Rattle.watchlog.proofs.write_without.Goals.{After-place_of-at, After-kind_right, After-write, else-at-count-via-then-at-count+else-rank_of-wanted, else-at-count-via-else-at-count}
@@ -69,16 +69,8 @@ pub returns-then-rank_of-wanted : goal.returns-then-rank_of-wanted
 returns-then-rank_of-wanted c =
     λ rule ruled.
     let q = c.args in
-    leaves rule _ (q.count - 1) q.file.now c.write.new.file c.write.result _ _ (c.write.ensures rule ruled) (done_on c.write.result c.in_ok-write.field-0 c.in_ok-write.was)
+    leaves rule _ (q.count - 1) q.file.now c.write.new.file c.write.result _ _ (c.write.ensures rule ruled) c.written.ensures
     (found (goal.at.returns-then-rank_of-wanted c).After-write rule)
-
-pub returns-in_err-write : goal.returns-in_err-write
-returns-in_err-write c =
-    λ rule ruled.
-    let q = c.args in
-    leaves rule _ (q.count - 1) q.file.now c.write.new.file c.write.result _ _ (c.write.ensures rule ruled)
-    (refused_on c.write.result c.in_err-write.field-0.0 c.from_residual.result c.in_err-write.was c.from_residual.ensures.1)
-    (found (goal.at.returns-in_err-write c).After-write rule)
 
 -- the place was found, and the record there is another, or there is none there
 pub returns : goal.returns
