@@ -5,10 +5,9 @@ use mathlib.Core.Bool.{Bool, true, false, cond}
 use mathlib.Core.List.{List, [], ◌∷◌, ◌++◌, append-nil}
 use Prim.Native.Nat.{ℕ, suc, ◌+◌, ◌-◌, ◌/◌, ◌^◌, ◌≤◌, ◌<◌, min}
 use native.Mathlib.Omega.{arith}
-use native.Mathlib.Decide.{dec_lt}
 use lib.Dec.{eqb, lit<}
 use lib.ListN.{length, get_or, take, drop, set, length-drop, length-append, drop_of_length-le}
-use lib.Seq.{drop-drop, take_at, drop_at, take_all, lt-length-set, get_or-set_same, get_or-set_other}
+use lib.Seq.{take_at, drop_at, take_all, lt-length-set, get_or-set_same, get_or-set_other}
 use borrow.Author.Tests.{eqb-true, eqb-false}
 use Rattle.number.specs.Refusal.{Numbered, Answer, refused, given, numbered_in}
 use Rattle.wire.specs.declared.MessageRefusal.{MessageRefusal}
@@ -29,7 +28,7 @@ unfolding messages cut
 messages_none [] h = refl
 messages_none (x ∷ s) h = absurd (omega (arith, h))
 
-messages_on : (s : List ℕ) → 0 < length s → messages s ≡ take 16 s ∷ messages (drop 16 s)
+pub messages_on : (s : List ℕ) → 0 < length s → messages s ≡ take 16 s ∷ messages (drop 16 s)
 unfolding messages cut
 messages_on s h =
     let n : (length s + 15) / 16 ≡ suc ((length (drop 16 s) + 15) / 16) = omega (arith, length-drop 16 s) in

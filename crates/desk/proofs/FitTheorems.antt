@@ -6,7 +6,7 @@ use Prim.Native.Nat.{ℕ, ◌≤◌}
 use native.Mathlib.Omega.{arith}
 use lib.Dec.{leb, eqb}
 use lib.IntN.{ℤ, pos, negsuc, neg_ℤ, nat_abs}
-use Rattle.std.specs.Prelude.{Option, Some, Ok}
+use Rattle.std.specs.Prelude.{Some, Ok}
 use borrow.Author.Tests.{le-leb, leb-true, eqb-true}
 use Rattle.number.specs.Whole.{within}
 use Rattle.number.proofs.Sizes.{and_true, both, natural, within_size}

@@ -1,5 +1,5 @@
 -- Each public contract of this crate allows a single answer, and `hear_all` a single block to be left. Assumes nothing.
-use mathlib.Core.Path.{◌≡◌, sym, ap, ◌∙◌}
+use mathlib.Core.Path.{sym, ap, ◌∙◌}
 use mathlib.Core.List.{List}
 use Prim.Native.Nat.{ℕ}
 use Rattle.number.specs.Single.{Single, SingleLeft}
