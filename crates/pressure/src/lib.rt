@@ -122,6 +122,8 @@ fn corrected(
 
 // The pressure at sea level: the reading plus its three corrections, in hPa, rounded once. Or the first of refusals 7 and 12 that holds.
 // A reading's limits are tested where it is kept; one within the certificate is small enough for every sum, whatever the block.
+// (In line: behind the tests of a question the compiler would make a call of it, with the reading in memory.)
+#[inline(always)]
 pub fn sea_level_pressure(
     store: &Store,
     reading: BarometerReading,

@@ -243,6 +243,7 @@ fn refused_at(minute: u32, r: PressureRefusal) -> QuestionRefusal
 }
 
 // Sea level pressure of the readings of a minute.
+#[inline(always)]
 fn sea_level(
     store: &Store,
     minute: u32,
@@ -258,7 +259,8 @@ fn sea_level(
 }
 
 // Sea level pressure at a minute, or why there is none although both readings are there; or the channel that has no reading. So a
-// tendency can tell first of all that is missing. (One function for three calls: with its parts apart a pressure cost a sixth more.)
+// tendency can tell first of all that is missing. (In line at its three calls, with its parts: as a call a pressure cost a sixth more.)
+#[inline(always)]
 fn sea_level_at(store: &Store, minute: u32) -> Result<Result<Hectopascals, QuestionRefusal>, u32>
     ensures { SeaLevelAt (held store.now) minute result }
 {
